@@ -8,7 +8,8 @@ use Rattle.lot_bucket.specs.Agrees.{IsRootOf}
 use Rattle.lot_bucket.specs.Settled.{IsReady, Stays}
 use Rattle.lot_bucket.proofs.Laws.{has_key-with, agrees_again}
 
--- where the queue was changed in one key's line alone, and the key's root is back with that line, the bucket stays what it was
+-- where the queue was changed in one key's line alone, and the key's root is back with that line, the bucket stays what
+-- it was
 pub back_stays : {R : Type 0} (view : R → KeyLine) (k threads keys : ℕ) (before after : Contents R) (back : R)
     → IsReady view k threads keys before → after.places ≡ with_root k (Some back) (with_root k None before.places)
     → after.opened ≡ before.opened → after.room ≡ before.room

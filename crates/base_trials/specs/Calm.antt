@@ -1,4 +1,5 @@
--- How a pass stands in the schedules of a lot: it is queued nowhere, and has no lock, seeks one, or has one. t is its thread, l a lock.
+-- How a pass stands in the schedules of a lot: it is queued nowhere, and has no lock, seeks one, or has one. t is its
+-- thread, l a lock.
 use Rattle.std.specs.Prelude.{◌≡◌, ◌≢◌, ◌⊎◌, ℕ, Some, None}
 use Rattle.lot_words.specs.World.{Holds}
 use Rattle.lot_words.specs.Values.{IsIn}

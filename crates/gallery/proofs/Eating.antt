@@ -72,7 +72,8 @@ module _ (rule : CallersRule Fork ℕ) (part : rule.part ≡ meals_of) where
       (finished : IsFinished rule names lot forks called woken)
       (rests : (p : PassView Fork) → rule.rests (rested p) → AteWithBoth p.thread p.seen)
       (five : lot.threads ≡ 5) (count : length forks ≡ lot.locks) where
-    -- what the pass of a thread, which was left, has seen of a fork counts as many meals of its own as the fork at the end
+    -- what the pass of a thread, which was left, has seen of a fork counts as many meals of its own as the fork at the
+    -- end
     at_the_end : (p : PassView Fork) → IsReady rule names.values lot p → GoesOnTo rule forks p → (k : ℕ) (u : Fork)
         → get_elem? forks k ≡ some u → (x : Fork) × (HasSeen p k x × (meals_of p.thread x ≡ meals_of p.thread u))
     at_the_end p ready goes k u at =

@@ -90,8 +90,8 @@ pub record MovesNothing (thread amount : ℕ) (from into from' into' : Account) 
   pub same_into : into' ≡ into
   pub why : CantMove thread amount from into
 
--- Two accounts were found, in which the worker's own numbers were as it had seen them, and two were left there, which its pass has seen:
--- the amount was moved where this is said, and else it could not be.
+-- Two accounts were found, in which the worker's own numbers were as it had seen them, and two were left there, which
+-- its pass has seen: the amount was moved where this is said, and else it could not be.
 pub record Transfers (before : PassView Account) (from into amount : ℕ) (done : Bool) (after : PassView Account) : Type 0 where
   pub found_from : Account
   pub found_into : Account

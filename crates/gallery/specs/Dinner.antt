@@ -7,7 +7,8 @@ use Rattle.gallery.specs.Parts.{OthersKeep}
 use Rattle.gallery.specs.declared.dinner.Fork.{Fork}
 use Rattle.gallery.specs.declared.dinner.TheConstants.{SEATS}
 
--- the lower and the higher of the two forks beside a seat: those of its own number and of the next, which after the last seat is 0
+-- the lower and the higher of the two forks beside a seat: those of its own number and of the next, which after the
+-- last seat is 0
 abbrev pub low_of : ℕ → ℕ
 low_of seat = if nat_lt (seat + 1) SEATS then seat else 0
 

@@ -52,7 +52,8 @@ module _ {T : Type 0} where
       } in
       subst (λ k. LiesOn n xs k ys) (sym e) (subst (λ l. LiesOn n l (n + 1) ys) (sym f) base)
 
--- where so many items lie, of so many places, and the next has this number: whether there is a place and a number for one more
+-- where so many items lie, of so many places, and the next has this number: whether there is a place and a number for
+-- one more
 abbrev pub has_room_for : ℕ → ℕ → ℕ → Bool
 has_room_for lie places next = nat_lt lie places && nat_lt (next + 1) (2 ^ 64)
 

@@ -119,8 +119,8 @@ module _ {V Part : Type 0} (rule : CallersRule V Part) (names : LotNames V) (lot
       (are_back rule opening lot (λ p q. q ≡ p) finished.passes finished.passes finished.taken same back) count finished.goes_on)
 
 module _ {V Part : Type 0} (rule : CallersRule V Part) (opening : List V) (lot : LotView) where
-  -- where each value comes to what its parts come to, and each thread's parts to so much when it came back, all values come to that of each
-  -- thread
+  -- where each value comes to what its parts come to, and each thread's parts to so much when it came back, all values
+  -- come to that of each thread
   pub worked_sum : (becomes : PassView V → PassView V → Type 0) (values : List V) (h : Part → ℕ) (all : V → ℕ) (n c : ℕ) → lot.threads ≡ n
       → ((t : ℕ) → t < lot.threads → HasWorked rule opening lot becomes values t) → 0 < n
       → ((key : ℕ) (v : V) → rule.keeps key v → all v ≡ sum_below n (λ t. h (rule.part t v)))

@@ -7,8 +7,8 @@ use Rattle.lot_sync.specs.Values.{GoesOnTo, AreSeen}
 use Rattle.lot_sync.specs.Closing.{HasOneRun}
 
 module _ {V Part : Type 0} (rule : CallersRule V Part) where
-  -- a pass that was in the lot: it owns no lock and holds no permit, keeps what passes that are in keep, and what it has seen grew from the
-  -- opening values
+  -- a pass that was in the lot: it owns no lock and holds no permit, keeps what passes that are in keep, and what it
+  -- has seen grew from the opening values
   pub record IsReady (opening : List V) (lot : LotView) (p : PassView V) : Type 0 where
     pub is_thread : p.thread < lot.threads
     pub free : OwnsNone p
@@ -23,8 +23,9 @@ module _ {V Part : Type 0} (rule : CallersRule V Part) where
     pub all : (t : ℕ) → t < lot.threads → Any (λ (p : PassView V). p.thread ≡ t) passes
     pub ready : All (IsReady opening lot) passes
 
-  -- the passes of all threads were taken out of the lot: the values go on from all that each had seen, and some pass saw each last; the
-  -- ledger is that of what they had counted; and what was made with them is one run of the whole model
+  -- the passes of all threads were taken out of the lot: the values go on from all that each had seen, and some pass
+  -- saw each last; the ledger is that of what they had counted; and what was made with them is one run of the whole
+  -- model
   pub record IsFinished (names : LotNames V) (lot : LotView) (values : List V) (called woken : List ℕ) : Type 0 where
     pub passes : List (PassView V)
     pub taken : AreTaken names.values lot passes

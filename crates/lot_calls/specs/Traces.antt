@@ -1,5 +1,5 @@
--- Traces: which accesses a call made with the pass of its thread t, the oldest first. l is a lock, c a condition; now is the moment of the
--- unlocks.
+-- Traces: which accesses a call made with the pass of its thread t, the oldest first. l is a lock, c a condition; now
+-- is the moment of the unlocks.
 use Rattle.std.specs.Prelude.{◌≡◌, ℕ, zero, suc, ◌<◌, ◌++◌, false, List, [], ◌⊎◌}
 use Rattle.lot_rights.specs.declared.views.Access.{Access}
 use Rattle.lot_scheme.specs.Traces.{GetTrace}

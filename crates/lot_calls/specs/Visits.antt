@@ -8,15 +8,16 @@ module _ {V Part : Type 0} (rule : CallersRule V Part) where
   abbrev pub own_parts : PassView V → List Part
   own_parts p = map (rule.part p.thread) p.seen
 
-  -- a thread that found the first value in the lock may leave the second: it keeps the rule, has grown, and has each other thread's part
+  -- a thread that found the first value in the lock may leave the second: it keeps the rule, has grown, and has each
+  -- other thread's part
   pub record MayBecome (key thread : ℕ) (found left : V) : Type 0 where
     pub kept : rule.keeps key left
     pub grown : rule.grows found left
     pub others : (t : ℕ) → t ≢ thread → rule.part t found ≡ rule.part t left
 
-  -- the lock was got with a value that keeps the rule, goes on from all that the pass had seen and has its own part unchanged; it was let
-  -- go with the value that was left, which the pass has seen now; what it owns is as before. Of its own parts only that of this value
-  -- changed
+  -- the lock was got with a value that keeps the rule, goes on from all that the pass had seen and has its own part
+  -- unchanged; it was let go with the value that was left, which the pass has seen now; what it owns is as before. Of
+  -- its own parts only that of this value changed
   pub record Visits (before : PassView V) (key : ℕ) (found left : V) (after : PassView V) : Type 0 where
     pub kept : rule.keeps key found
     pub grown : (u : V) → HasSeen before key u → rule.grows u found
@@ -29,7 +30,8 @@ module _ {V Part : Type 0} (rule : CallersRule V Part) where
     pub own_was : (d : Part) → slice_index_or (own_parts before) key d ≡ rule.part before.thread found
     pub own_is : own_parts after ≡ slice_set (own_parts before) key (rule.part before.thread left)
 
-  -- a value that was found keeps the rule, goes on from all that the pass had seen of it, and has the pass's own part unchanged
+  -- a value that was found keeps the rule, goes on from all that the pass had seen of it, and has the pass's own part
+  -- unchanged
   pub record Finds (before : PassView V) (key : ℕ) (found : V) : Type 0 where
     pub kept : rule.keeps key found
     pub grown : (u : V) → HasSeen before key u → rule.grows u found
@@ -37,8 +39,8 @@ module _ {V Part : Type 0} (rule : CallersRule V Part) where
     pub own_near : key < length (own_parts before)
     pub own_was : (d : Part) → slice_index_or (own_parts before) key d ≡ rule.part before.thread found
 
-  -- two locks were got with the first two values, and let go with the other two, which the pass has seen now; all else of it is as before,
-  -- and of its own parts only those of these values changed
+  -- two locks were got with the first two values, and let go with the other two, which the pass has seen now; all else
+  -- of it is as before, and of its own parts only those of these values changed
   pub record VisitsBoth (before : PassView V) (first second : ℕ) (v w x y : V) (after : PassView V) : Type 0 where
     pub finds_first : Finds before first v
     pub finds_second : Finds before second w

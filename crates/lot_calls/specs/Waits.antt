@@ -11,8 +11,8 @@ module _ {V : Type 0} where
   abbrev pub woken_from : PassView V → ℕ → ℕ → PassView V
   woken_from p cond count = record p { woken = slice_set p.woken cond (slice_index p.woken cond + count) }
 
-  -- So many waits in a row, each of which began with a value that was not as wanted: with the first value, and then with what the wait
-  -- before had ended with, which goes on from that. The last one ended with the last value.
+  -- So many waits in a row, each of which began with a value that was not as wanted: with the first value, and then
+  -- with what the wait before had ended with, which goes on from that. The last one ended with the last value.
   abbrev pub WaitsWhile : (grows : V → V → Type 0) (unready : V → Type 0) → ℕ → V → V → Type 0
   WaitsWhile grows unready zero first last = last ≡ first
   WaitsWhile grows unready (suc n) first last = (mid : V) × WaitsWhile grows unready n first mid × unready mid × grows mid last
@@ -23,9 +23,9 @@ module _ {V : Type 0} where
   AfterWaits p key cond found (suc n) q = (q ≈ woken_from (owning p key found) cond (suc n)) × HasSeen q key found
 
 module _ {V Part : Type 0} (rule : CallersRule V Part) where
-  -- the pass waited some times, or not at all, and each time only since the value was not as wanted; the lock is owned as before, with a
-  -- value that keeps the rule, goes on from what was held and has the pass's own part unchanged; without a wait it is what was held. It may
-  -- be given back
+  -- the pass waited some times, or not at all, and each time only since the value was not as wanted; the lock is owned
+  -- as before, with a value that keeps the rule, goes on from what was held and has the pass's own part unchanged;
+  -- without a wait it is what was held. It may be given back
   pub record WaitsOn (unready : V → Type 0) (before : PassView V) (held : HeldView V) (cond now : ℕ) (found : HeldView V)
       (after : PassView V) : Type 0 where
     pub count : ℕ
@@ -42,8 +42,8 @@ module _ {V Part : Type 0} (rule : CallersRule V Part) where
     pub same_permits : after.permits ≡ before.permits
     pub back : MayGiveBack rule after found
 
-  -- the lock was got, after some waits or none: its value keeps the rule, goes on from all that the pass had seen of it, and has the pass's
-  -- own part unchanged; it is seen now
+  -- the lock was got, after some waits or none: its value keeps the rule, goes on from all that the pass had seen of
+  -- it, and has the pass's own part unchanged; it is seen now
   pub record GetsAfter (before : PassView V) (key : ℕ) (found : HeldView V) (after : PassView V) : Type 0 where
     pub key_is : found.key ≡ key
     pub kept : rule.keeps key found.value

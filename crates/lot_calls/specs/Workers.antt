@@ -37,7 +37,8 @@ module _ {V Part : Type 0} (rule : CallersRule V Part) where
     pub goes_on : GoesOnTo rule values p
     pub own : map (rule.part p.thread) values ≡ own_parts rule p
 
-  -- the pass of this thread was in the lot, came back as its work tells, and what it had seen then ended in these values
+  -- the pass of this thread was in the lot, came back as its work tells, and what it had seen then ended in these
+  -- values
   pub record HasWorked (opening : List V) (lot : LotView) (becomes : PassView V → PassView V → Type 0) (values : List V)
       (thread : ℕ) : Type 0 where
     pub before : PassView V

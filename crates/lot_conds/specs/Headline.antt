@@ -1,5 +1,5 @@
--- What a table of condition words promises: at every moment all of this holds, of one world. Each notice is in one place; nobody is
--- forgotten behind a clear flag; the ledger is balanced; and one legal history has led here.
+-- What a table of condition words promises: at every moment all of this holds, of one world. Each notice is in one
+-- place; nobody is forgotten behind a clear flag; the ledger is balanced; and one legal history has led here.
 use Rattle.std.specs.Prelude.{◌≡◌, ◌≢◌, ◌↔◌, ℕ, ◌+◌, ◌<◌, false, List, [], slice_index, Some}
 use Rattle.std.specs.List.{Contains}
 use Rattle.atomic_table.specs.Table.{State}
@@ -14,8 +14,8 @@ use Rattle.lot_conds.specs.declared.views.Size.{Size}
 use Rattle.lot_conds.specs.World.{CondWorld, flag_word, taken_from}
 use Rattle.lot_conds.specs.Rule.{sizes_of, part_of, meaning}
 
--- Letters fit: a thread that is out on a condition is in the line of that one alone, or is owed a letter by that root alone, or a letter
--- lies for it; the others have none
+-- Letters fit: a thread that is out on a condition is in the line of that one alone, or is owed a letter by that root
+-- alone, or a letter lies for it; the others have none
 pub record LettersFit (w : CondWorld) : Type 0 where
   pub out : (t : ℕ) → (w.pass t).out ≡ waits_on (w.spot t)
   pub lines : (t c : ℕ) → Contains (w.root c).line t ↔ (w.spot t ≡ queued c)
@@ -25,8 +25,8 @@ pub record LettersFit (w : CondWorld) : Type 0 where
   pub once_in_line : (c : ℕ) → IsOnce (w.root c).line
   pub owed_once : (c : ℕ) → IsOnce (w.root c).owes
 
--- the ledger, among n threads: in each condition, the sleepers that were taken are the waits that ended and the letters that are owed or
--- lie
+-- the ledger, among n threads: in each condition, the sleepers that were taken are the waits that ended and the letters
+-- that are owed or lie
 abbrev pub IsBalanced : ℕ → CondWorld → Type 0
 IsBalanced n w =
     (c : ℕ) → total n (λ t. slice_index (w.pass t).called c) ≡ total n (λ t. slice_index (w.pass t).woken c)

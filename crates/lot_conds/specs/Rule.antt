@@ -1,5 +1,5 @@
--- The rule of a table of condition words: there is a world that the words and the rights stand for, and it tells the condition part of the
--- model.
+-- The rule of a table of condition words: there is a world that the words and the rights stand for, and it tells the
+-- condition part of the model.
 use Rattle.std.specs.Prelude.{ℕ, ◌+◌, ◌<◌, false, List, [], replicate, None, length}
 use Rattle.std.specs.List.{Contains}
 use Rattle.std.proofs.Common.{sym, ap, ◌∙◌}
@@ -29,8 +29,8 @@ part_of w = record { conds = record { flag = w.word; line = λ c. (w.root c).lin
 abbrev pub opening_part : CondPart
 opening_part = record { conds = record { flag = λ c. false; line = λ c. [] }; sweeps = λ t. None }
 
--- a step of the model's condition part, in a table of this size. An Enlist is noted with lock 0, whichever lock it was: to the condition
--- part it is the same with each
+-- a step of the model's condition part, in a table of this size. An Enlist is noted with lock 0, whichever lock it was:
+-- to the condition part it is the same with each
 abbrev pub IsStep : Size → CondPart → Event → Seen → CondPart → Type 0
 IsStep size a e saw b = CondStep size.threads size.locks size.conds a e saw b
 

@@ -19,8 +19,8 @@ flag_word true = 1
 abbrev pub IsOut : ℕ → ℕ → CondPassView → ℕ → Type 0
 IsOut n t p c = (t < n) × (p.out ≡ Some c)
 
--- letters: a pass that was queued and has not collected is in its condition's line, or has exactly one letter, owed or lying; all tokens
--- are 0
+-- letters: a pass that was queued and has not collected is in its condition's line, or has exactly one letter, owed or
+-- lying; all tokens are 0
 abbrev pub SpotFits : ℕ → (ℕ → CondRootView) → ℕ → CondPassView → Spot → Type 0
 SpotFits n root t p awake = p.out ≡ None
 SpotFits n root t p (queued c) = IsOut n t p c × Contains (root c).line t

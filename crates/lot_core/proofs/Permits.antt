@@ -53,7 +53,7 @@ seeking_is (Some j) k line t is =
           let both : not true ≡ true = ap not (sym in_it) ∙ parts.1 in absurd (cc)),
     )
 
--- who is not the first of a line is in it exactly where he is behind the first
+-- who is not the first of a line is in it exactly where it is behind the first
 pub seeks_behind : (o : Option ℕ) (k u : ℕ) (rest : List ℕ) (w : ℕ) → w ≢ u → is_seeking o k (u ∷ rest) w ≡ is_seeking o k rest w
 seeks_behind None k u rest w ne = refl
 seeks_behind (Some j) k u rest w ne = ap (λ b. (j == k) && not (b || list_any (nat_eq w) rest)) (ne_eqb w u ne)

@@ -47,7 +47,8 @@ module _ {O C R : Type 0} (after : O → C → O) (reply : O → C → R) where
   abbrev pub IsLegalJournal : JournalView O C R → Type 0
   IsLegalJournal journal = IsLegal after reply journal.opening journal.history journal.object
 
-  -- A call: it is answered as the object of one thread answers it, the object is the one after it, and exactly its entry is new.
+  -- A call: it is answered as the object of one thread answers it, the object is the one after it, and exactly its
+  -- entry is new.
   pub record IsCalled (old : JournalView O C R) (thread : ℕ) (call : C) (answer : R) (new : JournalView O C R) : Type 0 where
     pub answered : answer ≡ reply old.object call
     pub object : new.object ≡ after old.object call

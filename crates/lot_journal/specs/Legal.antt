@@ -3,8 +3,8 @@ use Rattle.std.specs.Prelude.{◌≡◌, List, [], ◌∷◌}
 use Rattle.lot_journal.specs.declared.entry.Entry.{Entry}
 
 module _ {O C R : Type 0} (after : O → C → O) (reply : O → C → R) where
-  -- A history is legal from one object to another where applying its calls in order, beginning at the first, gives each reply
-  -- and ends at the other.
+  -- A history is legal from one object to another where applying its calls in order, beginning at the first, gives each
+  -- reply and ends at the other.
   abbrev pub IsLegal : O → List (Entry C R) → O → Type 0
   IsLegal first [] last = first ≡ last
   IsLegal first (entry ∷ rest) last = (reply first entry.call ≡ entry.reply) × IsLegal (after first entry.call) rest last

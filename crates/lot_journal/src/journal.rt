@@ -11,7 +11,7 @@ use std::marker::Model;
 
 /// An object with the history of all calls that were made on it, and the object that it began with.
 ///
-/// Make one for each lock by `new`, and let the lock's owner `call`: what he puts back then keeps the rule, has grown,
+/// Make one for each lock by `new`, and let the lock's owner `call`: what it puts back then keeps the rule, has grown,
 /// and has the calls of the other threads unchanged.
 #[derive(Drop)]
 pub struct Journal<O: Sequential> {

@@ -22,7 +22,8 @@ abbrev pub OwnIsMore : JournalView Counter Add ℕ → ℕ → Add → ℕ → J
 OwnIsMore old thread call answer new =
     calls_of thread new ≡ calls_of thread old ++ record { thread = thread; call = call; reply = answer } ∷ []
 
--- the thread's call is in the history, behind all that it had seen of it; and once, since of its own calls it has those and this one
+-- the thread's call is in the history, behind all that it had seen of it; and once, since of its own calls it has those
+-- and this one
 pub record IsThere (thread : ℕ) (call : Add) (seen now : JournalView Counter Add ℕ) : Type 0 where
   pub answer : ℕ
   pub between : List (Entry Add ℕ)

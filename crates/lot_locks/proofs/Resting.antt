@@ -1,4 +1,5 @@
--- A pass between two calls is idle, and stays so: it gets a lock, finds one parked, or lets one go, and the value goes in and out.
+-- A pass between two calls is idle, and stays so: it gets a lock, finds one parked, or lets one go, and the value goes
+-- in and out.
 use Rattle.std.proofs.Common.{ℕ, List, inl, refl, sym, ap, subst}
 use Rattle.lot_rights.specs.declared.views.Access.{Access}
 use Rattle.lot_words.specs.declared.views.Place.{Place}

@@ -23,8 +23,8 @@ token_told Nobody = 0
 token_told Woke = 0
 token_told Handed = 1
 
--- What the callback of an unlock does, which is told of the first of the line: it takes that thread from the line, decides what becomes of
--- the lock, and owes the thread a letter that tells it.
+-- What the callback of an unlock does, which is told of the first of the line: it takes that thread from the line,
+-- decides what becomes of the lock, and owes the thread a letter that tells it.
 pub record HandsOver {R : Type 0} (view : R → KeyLine) (root : R) (told : Dequeued) (fair : Bool) (root_now : R) (became : Released)
     (token : ℕ) : Type 0 where
   pub named : (view root_now).key ≡ (view root).key
@@ -33,8 +33,8 @@ pub record HandsOver {R : Type 0} (view : R → KeyLine) (root : R) (told : Dequ
   pub tells : token ≡ token_told became
   pub owing : (view root_now).owes ≡ debt told.thread token
 
--- a fair release leaves no lock to whoever comes first, and a release that is not asked to be fair hands over only after
--- the moment 0
+-- a fair release leaves no lock to whoever comes first, and a release that is not asked to be fair hands over only
+-- after the moment 0
 abbrev pub IsFitting : Released → Bool → ℕ → Type 0
 IsFitting Quiet fair now = Unit {0}
 IsFitting Nobody fair now = Unit {0}
@@ -42,8 +42,8 @@ IsFitting Woke fair now = fair ≡ false
 IsFitting Handed fair now = fair ≡ false → 0 < now
 
 -- ---- traces: t is the thread, l the lock
--- a lock that was found parked was passed on, of which this became; it stays marked as parked where more is true, and then its line had a
--- first
+-- a lock that was found parked was passed on, of which this became; it stays marked as parked where more is true, and
+-- then its line had a first
 abbrev pub Passed : ℕ → ℕ → Bool → Released → List Access → Type 0
 Passed t l more became acts =
     (first : Option ℕ) × (fair : Bool) × (became ≡ decision first fair) × (more ≡ true → IsSome first)

@@ -68,7 +68,8 @@ module _ {V : Type 0} where
   abbrev pub LetsGo : LotStanding V → ℕ → Released → LotStanding V → Type 0
   LetsGo before l became after = GoesBy (FreeTrace before.thread l became) before l after
 
-  -- the lock, which was found parked before, was let go, of which this became; it stays marked as parked where more is true
+  -- the lock, which was found parked before, was let go, of which this became; it stays marked as parked where more is
+  -- true
   abbrev pub PassesOn : LotStanding V → ℕ → Bool → Released → LotStanding V → Type 0
   PassesOn before l more became after = GoesBy (Passed before.thread l more became) before l after
 

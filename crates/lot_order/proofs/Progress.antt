@@ -1,4 +1,5 @@
--- While some thread needs a key, some thread goes on: the levels of needed keys rise from waiting thread to waiting thread, and end.
+-- While some thread needs a key, some thread goes on: the levels of needed keys rise from waiting thread to waiting
+-- thread, and end.
 use Rattle.std.proofs.Common.{◌≡◌, ◌≢◌, ◌⊎◌, ◌+◌, ◌<◌, ◌≤◌, ℕ, zero, suc, Bool}
 use Rattle.std.proofs.Common.{true, false, List, [], refl, subst, ap}
 use Rattle.std.proofs.Common.{arith, inl, inr}

@@ -1,5 +1,5 @@
--- Keys in order: of each two locks, semaphores or conditions it is said whether who has the one may wait for the other, and
--- whoever is to wait for one has only keys with which he may.
+-- Keys in order: of each two locks, semaphores or conditions it is said whether who has the one may wait for the other,
+-- and whoever is to wait for one has only keys with which that is allowed.
 use Rattle.std.specs.Prelude.{◌≡◌, ◌≢◌, ℕ, ◌+◌, ◌<◌, ◌≤◌, ◌⊎◌, true, List, [], ◌∷◌}
 use Rattle.lot_events.specs.declared.events.Point.{Point}
 use Rattle.lot_events.specs.declared.events.Point.TheVariants.{Calm, Wants, Bed, Rest, Sweeps, Seeks}

@@ -49,7 +49,8 @@ SeeksInVain s = (t k : ℕ) × (s.point t ≡ Seeks k) × (s.permits k ≡ 0)
 abbrev pub HasNoCircle : StateView → Type 0
 HasNoCircle s = (t : ℕ) (others : List ℕ) → ¬ Leads s t others t
 
--- while some thread needs a key, some thread goes on; or one that has a needed key waits to be notified, or one seeks in vain
+-- while some thread needs a key, some thread goes on; or one that has a needed key waits to be notified, or one seeks
+-- in vain
 abbrev pub SomeoneGoesOn : (ℕ → ℕ → Type 0) → StateView → Type 0
 SomeoneGoesOn above s = (t k : ℕ) → Needs s t k → GoesOn s ⊎ AwaitsNotice above s ⊎ SeeksInVain s
 

@@ -18,8 +18,8 @@ pub record Tells (line : List ℕ) (now : ℕ) (told : Dequeued) : Type 0 where
   pub more : told.more ≡ true → IsSome told.thread
   pub fair : told.fair ≡ true → IsSome told.thread × (0 < now)
 
--- what an unparking of at most n tells of the line that it finds: how many it took, and whether more may wait. No line is longer than
--- the lot has threads.
+-- what an unparking of at most n tells of the line that it finds: how many it took, and whether more may wait. No line
+-- is longer than the lot has threads.
 pub record TellsCount (threads n : ℕ) (line : List ℕ) (taken : ℕ) (more : Bool) : Type 0 where
   pub number : taken ≡ min n (length line)
   pub alone : 1 ≤ n → more ≡ false → drop n line ≡ []
@@ -164,8 +164,9 @@ module _ {R : Type 0} (view : R → KeyLine) where
     pub paid : (view root).owes ≡ []
     pub called : answers root (x, pass, back, queued)
 
-  -- A parking called its validation once, with some root of the key. It is invalid exactly where that said no. Where it said yes, the
-  -- action ran once then, with what the validation answered, and the letter with the token was awaited from the pass that the action left.
+  -- A parking called its validation once, with some root of the key. It is invalid exactly where that said no. Where it
+  -- said yes, the action ran once then, with what the validation answered, and the letter with the token was awaited
+  -- from the pass that the action left.
   pub record ParkedActing {X P : Type 0} (k : ℕ) (answers : R → X × P × R × Bool → Type 0) (acts : X → P → X × P → Type 0) (looked : P
       → Option ℕ → P → Type 0) (result : P × X × Parked) : Type 0 where
     pub root : R
@@ -178,8 +179,8 @@ module _ {R : Type 0} (view : R → KeyLine) where
         (λ token. (answer.3 ≡ true)
         × ((left : X × P) × acts answer.0 answer.1 left × Awaited looked left.1 token result.0 × (result.1 ≡ left.0)))
 
-  -- The same of an action that leaves the pass alone: it is invalid exactly where the validation said no, and where that said yes, the
-  -- action before sleep ran once, and the letter with the token was awaited.
+  -- The same of an action that leaves the pass alone: it is invalid exactly where the validation said no, and where
+  -- that said yes, the action before sleep ran once, and the letter with the token was awaited.
   pub record ParkedOnce {X P : Type 0} (k : ℕ) (answers : R → X × P × R × Bool → Type 0) (acts : X → X → Type 0) (looked : P → Option ℕ → P
       → Type 0) (result : P × X × Parked) : Type 0 where
     pub root : R

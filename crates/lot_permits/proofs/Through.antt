@@ -1,5 +1,5 @@
--- The traces of permits have no access by which a lock is let go: what is told of unlocks, by the accesses that were made with a pass, is
--- the same after them.
+-- The traces of permits have no access by which a lock is let go: what is told of unlocks, by the accesses that were
+-- made with a pass, is the same after them.
 use Rattle.std.proofs.Common.{◌≡◌, ℕ, Bool, true, List, [], ◌∷◌, ◌++◌, Some, None, inl, inr, refl, sym, ap, subst, ◌∙◌}
 use Rattle.std.specs.List.{All, fold}
 use Rattle.std.proofs.lemmas.List.Elements.{All-nil, All-cons, All-head, All-tail, All-append}

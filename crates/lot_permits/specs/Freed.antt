@@ -16,7 +16,8 @@ freed_by None = Nobody
 freed_by (Some thread) = Woke
 
 -- ---- traces: t gives a permit of k back, of which this becomes
--- with the bucket locked: it stays marked as parked where more may wait; where nobody is in the line, the parked bit is cleared then
+-- with the bucket locked: it stays marked as parked where more may wait; where nobody is in the line, the parked bit is
+-- cleared then
 abbrev pub PassedTrace : ℕ → ℕ → Bool → Freed → List Access → Type 0
 PassedTrace t k more Quiet acts = ⊥
 PassedTrace t k more Woke acts = (first : ℕ) × (acts ≡ Makes (Passes t k more) (Sleeper (Some first)) ∷ [])

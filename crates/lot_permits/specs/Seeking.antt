@@ -1,4 +1,5 @@
--- How a pass stands whose thread seeks a permit of k: p before it began, q now. The keys of the semaphores begin at first_sem.
+-- How a pass stands whose thread seeks a permit of k: p before it began, q now. The keys of the semaphores begin at
+-- first_sem.
 use Rattle.std.specs.Prelude.{◌≡◌, ◌≢◌, ℕ, ◌≤◌, ◌⊎◌, List}
 use Rattle.lot_events.specs.declared.events.Event.TheVariants.{SemMark}
 use Rattle.lot_events.specs.declared.events.Seen.TheVariants.{Done}
@@ -21,7 +22,8 @@ module _ {V : Type 0} where
   abbrev pub HasMarked : LotStanding V → ℕ → LotStanding V → Type 0
   HasMarked p k q = EndsWith (λ a. a ≡ Makes (SemMark p.thread k) Done) p q
 
-  -- an exchange found another word than it was to change: at last that of a mark, which is to change 0; or that of a try to take
+  -- an exchange found another word than it was to change: at last that of a mark, which is to change 0; or that of a
+  -- try to take
   abbrev pub FindsAnother : LotStanding V → ℕ → LotStanding V → Type 0
   FindsAnother p k q = EndsWith (λ a. (word : ℕ) × (word ≢ 0) × (a ≡ Finds p.thread k word)) p q
       ⊎ ((did : List Access) × BusyTrace p.thread k did × (q ≡ adding p did))

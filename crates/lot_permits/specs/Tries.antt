@@ -1,4 +1,5 @@
--- What became of a try to get a permit of k: with a permit the thread has one more than before, and else it stands as it did.
+-- What became of a try to get a permit of k: with a permit the thread has one more than before, and else it stands as
+-- it did.
 use Rattle.std.specs.Prelude.{◌≡◌, ℕ}
 use Rattle.lot_sems.specs.declared.taking.Taken.TheVariants.{Got as HasGot, Empty as FoundNone, Busy as WasBusy}
 use Rattle.lot_scheme.specs.Standing.{LotStanding}

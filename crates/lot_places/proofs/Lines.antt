@@ -29,8 +29,8 @@ without_count_nothing : (n k : ℕ) → without_count n k [] ≡ []
 without_count_nothing zero k = refl
 without_count_nothing (suc n) k = refl
 
--- A queue from which the first count threads of key k are taken: so many were taken and are written to out, and rest are still to
--- be taken, all of them from i on. Before is the queue as it was.
+-- A queue from which the first count threads of key k are taken: so many were taken and are written to out, and rest
+-- are still to be taken, all of them from i on. Before is the queue as it was.
 pub record IsTakenTo (k count : ℕ) (before queue : List (ℕ × ℕ)) (out : List ℕ) (i taken : ℕ) : Type 0 where
   pub rest : ℕ
   pub all : taken + rest ≡ count

@@ -1,4 +1,5 @@
--- How often each thread waits in a queue, counted beside it, so that nobody walks along the queue to find that a thread is not there.
+-- How often each thread waits in a queue, counted beside it, so that nobody walks along the queue to find that a thread
+-- is not there.
 use Rattle.std.specs.Prelude.{◌≡◌, ℕ, ◌<◌, List, map, length, slice_index}
 use Rattle.lot_places.specs.Links.{times}
 use Rattle.lot_places.specs.declared.counts.TheConstants.{TOO_MANY}

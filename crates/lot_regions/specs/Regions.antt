@@ -9,8 +9,9 @@ abbrev pub AreConds : LotView → ℕ → ℕ → Type 0
 AreConds lot first behind = (first ≤ behind) × (behind < 2 ^ 64) × ((c : ℕ) → first ≤ c → c < behind → IsCond lot c)
 
 module _ {V Part : Type 0} (rule : CallersRule V Part) where
-  -- The lock was got with the first value and left with the second, which it may become and which the pass has seen now. Of its own parts
-  -- only that of this value changed; and all else of the pass is as before, but for what it counted and did.
+  -- The lock was got with the first value and left with the second, which it may become and which the pass has seen
+  -- now. Of its own parts only that of this value changed; and all else of the pass is as before, but for what it
+  -- counted and did.
   pub record Region (before : PassView V) (key : ℕ) (found left : V) (after : PassView V) : Type 0 where
     pub finds : Finds rule before key found
     pub may : MayBecome rule key before.thread found left

@@ -53,7 +53,8 @@ module _ {V : Type 0} where
   state_after s [] = s
   state_after s (x ∷ rest) = state_after (after s x.0) rest
 
--- c is a condition of the lock `lock_of c`, and `ready c v` says whether who waits on it may go on where v lies in that lock
+-- c is a condition of the lock `lock_of c`, and `ready c v` says whether who waits on it may go on where v lies in that
+-- lock
 module _ {V : Type 0} (lock_of : ℕ → ℕ) (ready : ℕ → V → Bool) where
   -- whoever was taken from the line of a condition of l is called no more once it lets l go
   abbrev pub called_beside : ℕ → Option ℕ → Option ℕ
@@ -79,7 +80,8 @@ module _ {V : Type 0} (lock_of : ℕ → ℕ) (ready : ℕ → V → Bool) where
   watch_after s g (Sweep t c) v = calls g c (s.conds.line c)
   watch_after s g _ v = g
 
-  -- whoever owes a notification makes it before all else, and waits on a condition only where the value is not ready for it
+  -- whoever owes a notification makes it before all else, and waits on a condition only where the value is not ready
+  -- for it
   abbrev pub KeepsWatch : Watch V → Event → Type 0
   KeepsWatch g (Enlist t c l) =
       OwesNothing g t × (lock_of c ≡ l) × (ready c (g.value l) ≡ false) × ((d : ℕ) → g.called t ≡ Some d → d ≡ c)
@@ -92,8 +94,8 @@ module _ {V : Type 0} (lock_of : ℕ → ℕ) (ready : ℕ → V → Bool) where
   KeepsWatch g (SemPass t k more) = OwesNothing g t
   KeepsWatch g _ = Unit {0}
 
-  -- where a value is ready for a condition with a line, some thread is to see to it; nobody who was called stands in a condition's line;
-  -- and whoever owes a notification is awake
+  -- where a value is ready for a condition with a line, some thread is to see to it; nobody who was called stands in a
+  -- condition's line; and whoever owes a notification is awake
   pub record IsWatched (s : StateView) (g : Watch V) : Type 0 where
     pub due : (c : ℕ) → ready c (g.value (lock_of c)) ≡ true → s.conds.line c ≢ [] → (u : ℕ) × IsThread s u × IsDueFor s g u c
     pub outside : (c t : ℕ) → Contains (s.conds.line c) t → g.called t ≡ None

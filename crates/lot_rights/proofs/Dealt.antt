@@ -1,4 +1,5 @@
--- What a caller does with the rights that an opening answered: he takes them from the last on, and gives them back in order.
+-- What a caller does with the rights that an opening answered: it takes them from the last on, and gives them back in
+-- order.
 use Rattle.std.proofs.Common.{◌≡◌, ℕ, ◌+◌, ◌<◌, List, [], ◌∷◌, ◌++◌, length, slice_get, sym, ap, subst, ◌∙◌, ⊎_elim, arith, Some}
 use Rattle.std.proofs.Common.{length-append}
 use Rattle.std.specs.List.{Any}

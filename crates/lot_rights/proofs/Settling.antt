@@ -13,7 +13,8 @@ use Rattle.lot_rights.proofs.Showing.{join_shows, split_shows, same_shows, more_
 use Rattle.lot_rights.proofs.Uniques.{OneOutcome, one_history, run_one, one_more, none_more}
 
 module _ {S P R : Type 0} (k : Meaning S P R) where
-  -- where a run of accesses begins at what a tells and ends at what b tells, its events lead from the part of a to that of b
+  -- where a run of accesses begins at what a tells and ends at what b tells, its events lead from the part of a to that
+  -- of b
   pub run_of_events : (a : Telling k.Part) (n : ℕ) (log : List Entry) (b : Telling k.Part) → Run (LeadsOn k) a n log b
       → ModelRun k.Step a.part (events_in log) b.part
   run_of_events a n [] b run = λ i. (run i).part

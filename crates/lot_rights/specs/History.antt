@@ -47,8 +47,8 @@ entries_of i [] = []
 entries_of i (x ∷ xs) = cond (doer x.access == i) (x ∷ entries_of i xs) (entries_of i xs)
 
 -- ---- what accesses do
--- what the words of a table tell: a part of the model's state, and the number in each thread's letter, which is 0 for none and else its
--- token and 1
+-- what the words of a table tell: a part of the model's state, and the number in each thread's letter, which is 0 for
+-- none and else its token and 1
 pub record Telling (P : Type 0) : Type 0 where
   pub part : P
   pub letters : ℕ → ℕ
@@ -72,8 +72,8 @@ module _ {P : Type 0} (IsQueued : P → ℕ → Type 0) where
   abbrev pub NoLetterInLine : Telling P → Type 0
   NoLetterInLine a = (t : ℕ) → IsQueued a.part t → a.letters t ≡ 0
 
--- A history goes on by an access: it happens, and no letter lies then for a thread that is in a line. So who is in a line
--- is posted a letter, and collects one, only after an event that took him from there
+-- A history goes on by an access: it happens, and no letter lies then for a thread that is in a line. So who is in a
+-- line is posted a letter, and collects one, only after an event that took it from there
 module _ {P : Type 0} (Step : P → Event → Seen → P → Type 0) (word_in waiting_in : P → ℕ → ℕ) (IsQueued : P → ℕ → Type 0) where
   abbrev pub Continues : Telling P → Access → Telling P → Type 0
   Continues a x b = Happens Step word_in waiting_in a x b × NoLetterInLine IsQueued b
@@ -124,8 +124,8 @@ tokens_by c _ = 0
 abbrev pub taken_in : ℕ → List Entry → ℕ
 taken_in c log = sum_by (λ (x : Entry). taken_by c x.access) log
 
--- where the access counts, it tells how many threads were told by the entries before it that they were taken from the line of its key: all
--- that were taken from there; and how many of them were handed the lock
+-- where the access counts, it tells how many threads were told by the entries before it that they were taken from the
+-- line of its key: all that were taken from there; and how many of them were handed the lock
 abbrev pub CountsRight : List Entry → Access → Type 0
 CountsRight before (Counts t c told handed waiting) =
     (told ≡ length (tokens_of c before)) × (handed ≡ handed_in (tokens_of c before)) × (taken_in c before ≡ told)
@@ -137,7 +137,8 @@ AllCountRight before [] = Unit {0}
 AllCountRight before (x ∷ xs) = CountsRight before x.access × AllCountRight (before ++ x ∷ []) xs
 
 -- ---- the log
--- its accesses, of which k were made before, lead from a to b, each at its place and from what the ones before it have led to
+-- its accesses, of which k were made before, lead from a to b, each at its place and from what the ones before it have
+-- led to
 module _ {S : Type 0} (Leads : S → Access → S → Type 0) where
   abbrev pub Run : S → ℕ → List Entry → S → Type 0
   Run a k [] b = b ≡ a

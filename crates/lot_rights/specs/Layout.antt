@@ -1,5 +1,6 @@
--- Where the words of a table lie: by the number of the key or of the thread alone, so that tables of all kinds agree. Word 0 is spare, and
--- nothing is ever stored to its line of the cache: each join and split of seats loads it, and so does each move of a value.
+-- Where the words of a table lie: by the number of the key or of the thread alone, so that tables of all kinds agree.
+-- Word 0 is spare, and nothing is ever stored to its line of the cache: each join and split of seats loads it, and so
+-- does each move of a value.
 use Rattle.std.specs.Prelude.{ℕ, ◌+◌, ◌*◌, max}
 
 -- the word of a key: two words from one key to the next, and the first one past the line of the spare word

@@ -1,5 +1,5 @@
--- a table of rights, in the order in which one reads: where a right may be, what was done with it, the rule, and what a step, a move of a
--- value, an opening and a closing are
+-- a table of rights, in the order in which one reads: where a right may be, what was done with it, the rule, and what a
+-- step, a move of a value, an opening and a closing are
 pub mod Seating
 pub mod History
 pub mod Rule

@@ -21,7 +21,8 @@ module _ {P R : Type 0} where
   made_with (Pass p) = p.made
   made_with (Root q) = q.made
 
--- What a kind of table has of its own: what its words, slots and rights stand for, and the part of the model that it keeps
+-- What a kind of table has of its own: what its words, slots and rights stand for, and the part of the model that it
+-- keeps
 pub record Meaning (S P R : Type 0) : Type 1 where
   pub World : Type 0
   pub Part : Type 0

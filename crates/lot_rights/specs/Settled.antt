@@ -1,4 +1,5 @@
--- The laws of the history: the rights settle it, one entry more is one access, and no entry is none, wherever the rights lie.
+-- The laws of the history: the rights settle it, one entry more is one access, and no entry is none, wherever the
+-- rights lie.
 use Rattle.std.specs.Prelude.{◌≡◌, ◌≢◌, ℕ, ◌++◌, ◌⊎◌, List, [], ◌∷◌, length, slice_set}
 use mathlib.Core.Option.{Option, some}
 use lib.ListN.{get_elem?}
@@ -25,8 +26,8 @@ module _ {S P R : Type 0} (k : Meaning S P R) where
   RightsSettle = (views : List (List (Right P R))) (log log' : List Entry) (a b : Telling k.Part) → IsHistory k log views a
       → IsHistory k log' views b → (log ≡ log') × (a ≡ b)
 
-  -- Of two tables that keep the rule: where the rights show one entry more in the second, that access and no other was made, from what
-  -- the words told just then
+  -- Of two tables that keep the rule: where the rights show one entry more in the second, that access and no other was
+  -- made, from what the words told just then
   abbrev pub OneEntryIsOneAccess : Type 0
   OneEntryIsOneAccess = (s s' : State S (List (Right P R))) (before : Ruled k s) (after : Ruled k s') (x : Entry)
       → OneMoreShown number made_with s.views x s'.views
@@ -38,8 +39,8 @@ module _ {S P R : Type 0} (k : Meaning S P R) where
       → SameShown number made_with s.views s'.views
       → (after.log ≡ before.log) × (k.told_by after.world ≡ k.told_by before.world)
 
-  -- What the rights of such a table show, where their seats join, split or take a step: they show more only where the first right of a
-  -- seat does
+  -- What the rights of such a table show, where their seats join, split or take a step: they show more only where the
+  -- first right of a seat does
   pub record SeatsShow (s : State S (List (Right P R))) : Type 0 where
     pub joined : (id other : ℕ) (v w : List (Right P R)) → get_elem? s.views id ≡ some v → other ≢ id
         → get_elem? s.views other ≡ some w
@@ -55,8 +56,8 @@ module _ {S P R : Type 0} (k : Meaning S P R) where
   abbrev pub RuledSeatsShow : Type 0
   RuledSeatsShow = (s : State S (List (Right P R))) → Ruled k s → SeatsShow s
 
-  -- Of every table that keeps the rule: each right is in exactly one place, and the log without its notices is a run of the model to the
-  -- part that the words tell
+  -- Of every table that keeps the rule: each right is in exactly one place, and the log without its notices is a run of
+  -- the model to the part that the words tell
   pub record HasOneRun (s : State S (List (Right P R))) (here : Ruled k s) : Type 0 where
     pub once : (i : ℕ) → IsRight k i → times_in number i s.views ≡ 1
     pub model : ModelRun k.Step k.start.part (events_in here.log) (k.told_by here.world).part
@@ -64,8 +65,9 @@ module _ {S P R : Type 0} (k : Meaning S P R) where
   abbrev pub RuledHasOneRun : Type 0
   RuledHasOneRun = (s : State S (List (Right P R))) (here : Ruled k s) → HasOneRun s here
 
-  -- What every headline says of its world: each right is in exactly one place, and knows what the world says of it; and one legal history,
-  -- of which the rights have all entries, has led to it. Without its notices that is a run of the model
+  -- What every headline says of its world: each right is in exactly one place, and knows what the world says of it; and
+  -- one legal history, of which the rights have all entries, has led to it. Without its notices that is a run of the
+  -- model
   pub record OneHistory (s : State S (List (Right P R))) (w : k.World) : Type 0 where
     pub rights : Seated number (RightFits k w) s.views
     pub in_place : (i : ℕ) → IsRight k i → times_in number i s.views ≡ 1

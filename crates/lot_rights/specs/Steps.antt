@@ -31,7 +31,8 @@ Notes p own a p' = (k : ℕ) × (p' ≡ pass_after p own k a)
 abbrev pub RootNotes : {R : Type 0} → RootShown R → R → Access → RootShown R → Type 0
 RootNotes q own a q' = (k : ℕ) × (q' ≡ root_after q own k a)
 
--- the access counts nothing; or it may count what this root shows of its key, where so many that it took are not told yet
+-- the access counts nothing; or it may count what this root shows of its key, where so many that it took are not told
+-- yet
 abbrev pub CountsNothing : Access → Type 0
 CountsNothing a = (log : List Entry) → CountsRight log a
 
@@ -61,8 +62,8 @@ module _ {S P R : Type 0} (k : Meaning S P R) where
   abbrev pub AllRootsStay : k.World → k.World → Type 0
   AllRootsStay w w' = (d : ℕ) (y : R) → k.RootFits w d y → k.RootFits w' d y
 
-  -- at a step by which the word i becomes x, where the words ws stand for the world w: what the pass p knows then, the access, and the
-  -- world
+  -- at a step by which the word i becomes x, where the words ws stand for the world w: what the pass p knows then, the
+  -- access, and the world
   pub record PassTurn (i x : ℕ) (p : PassShown P) (then : PassShown P → Type 0) (w : k.World) (ws : List ℕ)
       (hs : List (Option S)) : Type 0 where
     pub own : P
@@ -130,7 +131,8 @@ module _ {S P R : Type 0} (k : Meaning S P R) where
   TellsOfTwo p q fact = (w : k.World) (ws : List ℕ) (hs : List (Option S)) → k.Fits w ws hs → k.PassFits w p.thread p.own
       → k.PassFits w q.thread q.own → p.thread ≢ q.thread → fact
 
-  -- At some moment the table kept its rule, its world knew the root, and its history had exactly the root's entries of it
+  -- At some moment the table kept its rule, its world knew the root, and its history had exactly the root's entries of
+  -- it
   pub record Moment (q : RootShown R) : Type 0 where
     pub state : State S (List (Right P R))
     pub here : Ruled k state

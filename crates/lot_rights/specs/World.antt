@@ -1,11 +1,11 @@
--- What the words of a table stand for, as far as kinds of tables have it in common: of each thread its pass and where its notice is, of
--- each key what its word says and its root.
+-- What the words of a table stand for, as far as kinds of tables have it in common: of each thread its pass and where
+-- its notice is, of each key what its word says and its root.
 use Rattle.std.specs.Prelude.{◌≡◌, ℕ, ◌+◌, ◌<◌, ◌≤◌, ◌&&◌, nat_le, nat_lt, if◌then◌else◌, Bool, List, length, slice_index, Option, Some}
 use Rattle.std.specs.Prelude.{None}
 use Rattle.lot_rights.specs.Layout.{word_at, letter_at, word_count}
 
--- Where a thread's notice is: it waits for none, it is in the line of a key, the key's root owes it a letter with a token, or that letter
--- lies
+-- Where a thread's notice is: it waits for none, it is in the line of a key, the key's root owes it a letter with a
+-- token, or that letter lies
 pub data Spot : Type 0 where
   awake : Spot
   queued : ℕ → Spot

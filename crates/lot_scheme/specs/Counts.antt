@@ -25,8 +25,8 @@ pub record IsContention (parked taken handed : ℕ) (c : Contention) : Type 0 wh
   pub taken_are : c.taken ≡ taken % 2 ^ 64
   pub handed_are : c.handed ≡ handed % 2 ^ 64
 
--- of a key's root: the threads that wait, or were taken and are not told yet; and all that were ever queued, since who was told was told
--- by an entry of the root
+-- of a key's root: the threads that wait, or were taken and are not told yet; and all that were ever queued, since who
+-- was told was told by an entry of the root
 abbrev pub queued_now : LotRootView → ℕ
 queued_now own = length (line_of_root own) + length (owes_in own)
 
@@ -44,7 +44,8 @@ pub record IsUnused (r : RootShown LotRootView) : Type 0 where
   pub owes_none : owes_in r.own ≡ []
 
 -- ---- what was counted, and the history
--- the trace of a call that counts: one access, which tells of the entries before it what is answered, and how many waited
+-- the trace of a call that counts: one access, which tells of the entries before it what is answered, and how many
+-- waited
 abbrev pub CountTrace : ℕ → ℕ → Contention → List Access → Type 0
 CountTrace t key c acts =
     (told handed waiting : ℕ) × IsContention (told + waiting) told handed c × (acts ≡ Counts t key told handed waiting ∷ [])
@@ -53,8 +54,8 @@ CountTrace t key c acts =
 abbrev pub HasCounted : {V : Type 0} → LotStanding V → ℕ → Contention → LotStanding V → Type 0
 HasCounted p key c q = (acts : List Access) × CountTrace p.thread key c acts × (q ≡ adding p acts)
 
--- Of a history: as many were queued at the key as it has entries that queued a thread there; taken from its line as it has entries that
--- told them so; and handed the lock as it has such entries with the token of a handoff
+-- Of a history: as many were queued at the key as it has entries that queued a thread there; taken from its line as it
+-- has entries that told them so; and handed the lock as it has such entries with the token of a handoff
 abbrev pub CountsOf : (ℕ → ℕ → ℕ → Type 0) → List Entry → ℕ → Type 0
 CountsOf counts log key = counts (queued_in key log) (length (tokens_of key log)) (handed_in (tokens_of key log))
 

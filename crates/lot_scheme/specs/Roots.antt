@@ -14,8 +14,8 @@ abbrev pub debts_of : Option (ℕ × ℕ) → List (ℕ × ℕ)
 debts_of None = []
 debts_of (Some owed) = owed ∷ []
 
--- the letters that are owed to those that were taken from a key's line: one of a lock has a token, and all letters of conditions and of
--- semaphores have the token 0
+-- the letters that are owed to those that were taken from a key's line: one of a lock has a token, and all letters of
+-- conditions and of semaphores have the token 0
 abbrev pub owes_in : LotRootView → List (ℕ × ℕ)
 owes_in (Lock q) = debts_of q.owes
 owes_in (Cond q) = debts q.owes
@@ -38,14 +38,16 @@ abbrev pub with_root : RootShown LotRootView → LotRootView → RootShown LotRo
 with_root r own = record r { own = own }
 
 -- ---- the numbers of the keys
--- those below `locks` are locks, those from there on and below `first_sem` are conditions, and all others are semaphores
+-- those below `locks` are locks, those from there on and below `first_sem` are conditions, and all others are
+-- semaphores
 abbrev pub IsInItsKind : ℕ → ℕ → ℕ → LotRootView → Type 0
 IsInItsKind locks first_sem c (Lock q) = c < locks
 IsInItsKind locks first_sem c (Cond q) = (locks ≤ c) × (c < first_sem)
 IsInItsKind locks first_sem c (Sem q) = (locks ≤ c) × (first_sem ≤ c)
 
 -- ---- a lot's name
--- what a name tells of a lot: its numbers of threads, locks and conditions, and how many permits each semaphore has at the opening
+-- what a name tells of a lot: its numbers of threads, locks and conditions, and how many permits each semaphore has at
+-- the opening
 abbrev pub size_named : ℕ → ℕ → ℕ → List ℕ → LotSize
 size_named threads locks conds permits = record { threads = threads; locks = locks; conds = conds; permits = permits }
 

@@ -18,7 +18,8 @@ use Rattle.lot_whole.specs.declared.views.Stand.TheVariants.{Idle, AtBed}
 use Rattle.lot_whole.specs.Whole.{rises}
 use Rattle.lot_whole.specs.Calls.{placed_in}
 
--- a pass: its thread, what it knows, and the accesses that were made with it, the oldest first, without their places in the history
+-- a pass: its thread, what it knows, and the accesses that were made with it, the oldest first, without their places in
+-- the history
 pub record LotStanding (V : Type 0) : Type 0 where
   pub thread : ℕ
   pub own : LotPassView V
@@ -108,7 +109,8 @@ module _ {V : Type 0} where
 
 -- ---- looks for a letter
 module _ {V Part : Type 0} (rule : CallersRule V Part) where
-  -- a lock's letter was collected: with token 0 the thread may try again, and with token 1 it has the lock that it wanted
+  -- a lock's letter was collected: with token 0 the thread may try again, and with token 1 it has the lock that it
+  -- wanted
   abbrev pub CollectsLock : LotStanding V → ℕ → LotStanding V → Type 0
   CollectsLock p zero q =
       q ≡ adding (record p { own = record p.own { locks = lock_woken p.own.locks } }) (Collects p.thread (Some 0) ∷ [])

@@ -1,4 +1,5 @@
--- What is so of a thread that seeks something, of how its pass stood before, how far it is, and how its pass stands now.
+-- What is so of a thread that seeks something, of how its pass stood before, how far it is, and how its pass stands
+-- now.
 use Rattle.std.specs.Prelude.{◌≡◌, ℕ, ◌⊎◌, ◌++◌, Bool, true, false, List, []}
 use Rattle.std.specs.List.{All}
 use Rattle.lot_seeking.specs.declared.seeking.Seeking.{Seeking}
@@ -10,8 +11,8 @@ IsUnfinished Got = ⊥
 IsUnfinished Waits = Unit {0}
 IsUnfinished Parks = Unit {0}
 
--- What a thread did that lined up, by how far it is then. It goes on awake only where the word had changed under it, and parks only where
--- the word was seen marked, or it marked it.
+-- What a thread did that lined up, by how far it is then. It goes on awake only where the word had changed under it,
+-- and parks only where the word was seen marked, or it marked it.
 abbrev pub LinedUp : Seeking → Bool → (changed marked : Type 0) → Type 0
 LinedUp Got is_marked changed marked = Unit {0}
 LinedUp Waits is_marked changed marked = changed
@@ -34,8 +35,8 @@ pub record IsOnItsWay {A : Type 0} (allowed : Type 0) (is_seek : A → Type 0) (
   pub sought : All is_seek did
   pub is : stands did
 
--- who the pass's thread is; how the pass stands after accesses more, and where it wants what lies under a key; when it may; which accesses
--- of which thread get nothing; and how it stands that has got it
+-- who the pass's thread is; how the pass stands after accesses more, and where it wants what lies under a key; when it
+-- may; which accesses of which thread get nothing; and how it stands that has got it
 module _ {P A : Type 0} (thread : P → ℕ) (adding : P → List A → P) (wants : P → ℕ → P) (allowed : P → ℕ → Type 0)
     (is_seek : ℕ → ℕ → A → Type 0) (gets : P → ℕ → P → Type 0) where
   -- it is in no line, and stands as before, or wants it by now
@@ -53,8 +54,8 @@ module _ {P A : Type 0} (thread : P → ℕ) (adding : P → List A → P) (want
   SeeksSo before key Waits now = IsAwake before key now
   SeeksSo before key Parks now = IsWanting before key now
 
-  -- Accesses add up and change nothing else. Who wants it wants the same and may seek it still; and who has got it from there, or after
-  -- accesses that got nothing, has got it.
+  -- Accesses add up and change nothing else. Who wants it wants the same and may seek it still; and who has got it from
+  -- there, or after accesses that got nothing, has got it.
   pub record Adds : Type 0 where
     pub none : (p : P) → adding p [] ≡ p
     pub both : (p : P) (xs ys : List A) → adding (adding p xs) ys ≡ adding p (xs ++ ys)

@@ -58,15 +58,16 @@ passed_root q (u ∷ us) = record q { line = us; owes = Some u }
 abbrev pub paid_root : SemRootView → SemRootView
 paid_root q = record q { owes = None }
 
--- what a permit that comes back adds to the word, where this is the first of the line: the permit, less the parked bit where nobody may be
--- left behind
+-- what a permit that comes back adds to the word, where this is the first of the line: the permit, less the parked bit
+-- where nobody may be left behind
 abbrev pub raise_of : Option ℕ → Bool → ℕ
 raise_of None more = 2
 raise_of (Some u) true = 2
 raise_of (Some u) false = 1
 
 -- ---- looks and exchanges: what became of the pass p by them, which is q then
--- a look at the word of k, which found this and left it so; or an exchange that found this, and not what it was to replace
+-- a look at the word of k, which found this and left it so; or an exchange that found this, and not what it was to
+-- replace
 abbrev pub Found : PassShown SemPassView → ℕ → ℕ → PassShown SemPassView → Type 0
 Found p k word q = Notes p p.own (Finds p.thread k word) q
 

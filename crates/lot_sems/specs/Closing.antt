@@ -13,8 +13,8 @@ use Rattle.lot_sems.specs.Rule.{IsStep, opening_part, IsQueued}
 abbrev pub out_with : List (PassShown SemPassView) → ℕ → ℕ
 out_with passes k = sum_by (λ (p : PassShown SemPassView). slice_index p.own.out k) passes
 
--- one legal history was made with these rights; it leaves the lines that the roots have, and with the permits that are out all that were
--- there at the opening
+-- one legal history was made with these rights; it leaves the lines that the roots have, and with the permits that are
+-- out all that were there at the opening
 pub record IsToldTo (size : Numbers) (passes : List (PassShown SemPassView)) (roots : List (RootShown SemRootView)) : Type 0 where
   pub recounted : IsRecounted (IsStep size) word_in waiting_in IsQueued (no_letters (opening_part size)) passes roots
   pub lines : All (λ (q : RootShown SemRootView). recounted.part.sems.line q.key ≡ q.own.line) roots

@@ -1,5 +1,5 @@
--- What a table of semaphore words promises: at every moment all of this holds, of one world. Permits are conserved; sleepers are marked; no
--- permit is left lying; each notice is in one place; and one legal history has led here.
+-- What a table of semaphore words promises: at every moment all of this holds, of one world. Permits are conserved;
+-- sleepers are marked; no permit is left lying; each notice is in one place; and one legal history has led here.
 use Rattle.std.specs.Prelude.{◌≡◌, ◌≢◌, ℕ, ◌+◌, ◌<◌, ◌≤◌, ◌⊎◌, List, Some}
 use Rattle.std.specs.List.{Contains}
 use Rattle.atomic_table.specs.Table.{State}

@@ -1,5 +1,5 @@
--- The rule of a table of semaphore words: there is a world that the words and the rights stand for, and it tells the semaphore part of the
--- model, which is sound.
+-- The rule of a table of semaphore words: there is a world that the words and the rights stand for, and it tells the
+-- semaphore part of the model, which is sound.
 use Rattle.std.specs.Prelude.{◌≡◌, ℕ, ◌<◌, ◌⊎◌, false, List, [], length, replicate, Some, None}
 use Rattle.std.specs.List.{Contains}
 use Rattle.std.proofs.Common.{sym, ap, ◌∙◌}

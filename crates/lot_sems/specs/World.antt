@@ -1,5 +1,5 @@
--- What the words, the passes and the roots of a table of semaphore words stand for: the semaphore part of the model itself, and where each
--- notice is.
+-- What the words, the passes and the roots of a table of semaphore words stand for: the semaphore part of the model
+-- itself, and where each notice is.
 use Rattle.std.specs.Prelude.{◌≡◌, ℕ, ◌+◌, ◌*◌, ◌<◌, Bool, true, false, List, length, slice_index, Option, Some}
 use Rattle.std.specs.List.{Contains}
 use Rattle.lot_core.specs.Parts.{SemaphorePart, IsAmongSemaphores}
@@ -66,7 +66,8 @@ sleeps (owed k token) = true
 sleeps (lying k token) = true
 
 module _ (n : ℕ) (line : ℕ → List ℕ) (seeks : ℕ → Option ℕ) (owes : ℕ → Option ℕ) where
-  -- a thread that was queued and has not collected is in its semaphore's line, or has exactly one letter, owed or lying; all tokens are 0
+  -- a thread that was queued and has not collected is in its semaphore's line, or has exactly one letter, owed or
+  -- lying; all tokens are 0
   abbrev pub NoticeFits : ℕ → Spot → Type 0
   NoticeFits t awake = Unit {0}
   NoticeFits t (queued k) = Contains (line k) t

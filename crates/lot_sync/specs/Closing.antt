@@ -12,9 +12,9 @@ use Rattle.lot_scheme.specs.Counts.{CountedWith, CountsOf}
 use Rattle.lot_sync.specs.Lot.{PassView, LotNames}
 use Rattle.lot_sync.specs.Passes.{pass_view_shown}
 
--- One history was made with these passes, and what was made with each pass is its thread's part of it. Without its notices it is one run of
--- the whole model, from the opening of this name to a sound state, in which the permits that are left and those that are out are all that
--- there were
+-- One history was made with these passes, and what was made with each pass is its thread's part of it. Without its
+-- notices it is one run of the whole model, from the opening of this name to a sound state, in which the permits that
+-- are left and those that are out are all that there were
 pub record HasOneRun {V : Type 0} (names : LotNames V) (passes : List (PassView V)) : Type 0 where
   pub rights : List (PassShown (LotPassView V))
   pub roots : List (RootShown LotRootView)

@@ -17,8 +17,9 @@ pub record LotView : Type 0 where
   pub conds : ℕ
   pub sems : ℕ
 
--- what a name tells of a lot: its table; the number of its first semaphore, and how many permits each semaphore has at the opening; its
--- numbers of locks, conditions and threads; and the values that it opened with. A clause has it as `N.LotName`
+-- what a name tells of a lot: its table; the number of its first semaphore, and how many permits each semaphore has at
+-- the opening; its numbers of locks, conditions and threads; and the values that it opened with. A clause has it as
+-- `N.LotName`
 abbrev pub LotNames : Type 0 → Type 0
 LotNames V = record { opening : Opening; first_sem : ℕ; permits : List ℕ; locks : ℕ; conds : ℕ; threads : ℕ; values : List V }
 
@@ -30,9 +31,9 @@ IsCond lot c = (lot.locks ≤ c) × (c < lot.locks + lot.conds)
 abbrev pub IsSem : LotView → ℕ → Type 0
 IsSem lot k = (lot.locks + lot.conds ≤ k) × (k < lot.locks + lot.conds + lot.sems)
 
--- a pass: its thread, which locks it owns, what it has seen of each value, and by key how many sleepers it took from the condition's line,
--- how many of its own waits ended, and how many permits of the semaphore it holds; and the accesses that were made with it, the oldest
--- first
+-- a pass: its thread, which locks it owns, what it has seen of each value, and by key how many sleepers it took from
+-- the condition's line, how many of its own waits ended, and how many permits of the semaphore it holds; and the
+-- accesses that were made with it, the oldest first
 pub record PassView (V : Type 0) : Type 0 where
   pub thread : ℕ
   pub owns : List Bool
@@ -69,7 +70,8 @@ module _ {V : Type 0} where
     pub no_lock : (key : ℕ) → ¬ Owns p key
     pub no_permit : (key : ℕ) → permits_with p key ≡ 0
 
-  -- the pass knows of each lock whether it owns it and what it has seen of its value, and of each key what it counted and holds
+  -- the pass knows of each lock whether it owns it and what it has seen of its value, and of each key what it counted
+  -- and holds
   pub record HasShape (lot : LotView) (p : PassView V) : Type 0 where
     pub owns : length p.owns ≡ lot.locks
     pub seen : length p.seen ≡ lot.locks
@@ -117,8 +119,8 @@ module _ {V : Type 0} where
   abbrev pub counts_of : PassView V → CountsView
   counts_of p = record { thread = p.thread; called = p.called; woken = p.woken }
 
-  -- of each condition, modulo 2^64, the sleepers that these passes took from its line, and the waits of theirs that ended;
-  -- they are equal
+  -- of each condition, modulo 2^64, the sleepers that these passes took from its line, and the waits of theirs that
+  -- ended; they are equal
   abbrev pub IsLedgerOf : LotView → List (PassView V) → List ℕ → List ℕ → Type 0
   IsLedgerOf lot passes called woken = IsLedger lot.locks lot.conds (map counts_of passes) called woken
 

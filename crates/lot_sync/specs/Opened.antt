@@ -35,8 +35,8 @@ opened_as words = record {
 abbrev pub IsNamed : {V : Type 0} → LotNames V → LotNames V → Type 0
 IsNamed names opened = names ≡ opened
 
--- nobody has used these words yet: there is a pass for each thread and a root for each key, in order, and the numbers are those of the
--- words
+-- nobody has used these words yet: there is a pass for each thread and a root for each key, in order, and the numbers
+-- are those of the words
 pub record IsOpened {V Part : Type 0} (rule : CallersRule V Part) (words : LotWordsShown V) (passes : List (PassShown (LotPassView V)))
     (roots : List (RootShown LotRootView)) (threads locks conds sems : ℕ) : Type 0 where
   pub some_threads : 0 < words.size.threads

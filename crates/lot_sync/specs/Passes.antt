@@ -72,8 +72,8 @@ module _ {V : Type 0} where
     pub is_of : p.table ≡ table
     pub done : HasDone p
 
--- what each pass of a lot of this name is: of one of its threads, with a number or a value for each key, and gone on from the opening
--- values
+-- what each pass of a lot of this name is: of one of its threads, with a number or a value for each key, and gone on
+-- from the opening values
 pub record IsPassOf {V : Type 0} (names : LotNames V) (grows : V → V → Type 0) (p : PassView V) : Type 0 where
   pub is_thread : p.thread < names.threads
   pub owns_long : length p.owns ≡ names.locks

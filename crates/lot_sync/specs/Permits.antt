@@ -10,7 +10,8 @@ module _ {V : Type 0} where
   abbrev pub HasPermit : PassView V → PermitView → Type 0
   HasPermit p permit = (permit.thread ≡ p.thread) × (1 ≤ permits_with p permit.key)
 
-  -- what became of a try to get a permit of k: with a permit the pass q holds one more than p did, and else it is as it was
+  -- what became of a try to get a permit of k: with a permit the pass q holds one more than p did, and else it is as it
+  -- was
   abbrev pub TriesToGet : {A B : Type 0} → PassView V → ℕ → Tried A B → PassView V → Type 0
   TriesToGet p k (Got permit) q = (permit.key ≡ k) × (permit.thread ≡ p.thread) × (q ≈ one_permit_more p k)
   TriesToGet p k Empty q = q ≈ p

@@ -1,4 +1,5 @@
--- Traces: which accesses a call made with the pass of its thread t, the oldest first. l is a lock, c a condition, k a semaphore.
+-- Traces: which accesses a call made with the pass of its thread t, the oldest first. l is a lock, c a condition, k a
+-- semaphore.
 use Rattle.std.specs.Prelude.{◌≡◌, ℕ, ◌<◌, ◌⊎◌, ◌++◌, Bool, false, List, [], ◌∷◌}
 use Rattle.lot_events.specs.declared.events.Event.TheVariants.{Free, Look}
 use Rattle.lot_events.specs.declared.events.Seen.TheVariants.{Bool as Saw}

@@ -1,5 +1,5 @@
--- A pass that came back to `close` shows the accesses that were made with it: so those by which it let a lock go stand in the one run of
--- its lot.
+-- A pass that came back to `close` shows the accesses that were made with it: so those by which it let a lock go stand
+-- in the one run of its lot.
 use Rattle.std.proofs.Common.{◌≡◌, ℕ, ◌*◌, ◌<◌, true, false, List, [], ◌∷◌, ◌++◌, sym, ap, subst, ◌∙◌, append_assoc, inl, inr}
 use Rattle.std.specs.List.{All, Any}
 use Rattle.std.proofs.lemmas.List.Elements.{All-nil, All-cons}

@@ -1,4 +1,5 @@
--- One wait and one notification: the notification stands in the one history of the lot before the letter that the wait collected.
+-- One wait and one notification: the notification stands in the one history of the lot before the letter that the wait
+-- collected.
 use Rattle.std.proofs.Common.{◌≡◌, ◌≢◌, ℕ, ◌+◌, ◌*◌, ◌<◌, Bool, true, false, List, [], ◌∷◌, ◌++◌, ◌⊎◌, min, length, Some}
 use Rattle.std.proofs.Common.{inl, inr, refl, sym, ap, subst, ◌∙◌, append_assoc, arith}
 use Rattle.std.specs.List.{All, Contains}

@@ -1,5 +1,5 @@
--- What callers conclude of the one history of their lot: of one wait and one notification, which came first; of a count, what came before
--- it.
+-- What callers conclude of the one history of their lot: of one wait and one notification, which came first; of a
+-- count, what came before it.
 use Rattle.std.specs.Prelude.{◌≡◌, ℕ, ◌*◌, ◌++◌, Bool, List, [], ◌∷◌, Some, slice_index}
 use Rattle.std.specs.List.{All}
 use Rattle.lot_core.specs.Model.{StateView}
@@ -76,7 +76,8 @@ pub record IsNotifiedFirst {V : Type 0} (names : LotNames V) (waiter caller c : 
   pub called : call.access ≡ Makes (Call caller c 1 more) (Count 1)
   pub collected : letter.access ≡ Collects waiter (Some 0)
 
--- In the one history of the lot of this name the thread t counted the key, and of what came before that the answer tells
+-- In the one history of the lot of this name the thread t counted the key, and of what came before that the answer
+-- tells
 pub record IsToldOf {V : Type 0} (names : LotNames V) (t key : ℕ) (c : Contention) : Type 0 where
   pub log : List Entry
   pub end : Telling StateView

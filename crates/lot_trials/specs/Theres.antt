@@ -7,8 +7,8 @@ use Rattle.lot_load.specs.declared.counter.Add.{Add}
 use Rattle.lot_load.specs.declared.counter.Counter.{Counter}
 use Rattle.lot_load.specs.Counters.{total_after, IsAdded, OwnIsMore, IsThere}
 
--- the thread was counted once in what went on from the value that it had seen, and the value that it sees now has gone on from there
--- without it
+-- the thread was counted once in what went on from the value that it had seen, and the value that it sees now has gone
+-- on from there without it
 pub record IsCountedOnce {V Part : Type 0} (grows : V → V → Type 0) (part : ℕ → V → Part) (is_counted : V → ℕ → V → Type 0) (thread : ℕ)
     (seen now : V) : Type 0 where
   pub found : V

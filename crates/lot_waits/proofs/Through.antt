@@ -1,5 +1,5 @@
--- The traces of locks and of conditions have no access by which a permit is given back: what is told of releases, by the accesses that were
--- made with a pass, is the same after them.
+-- The traces of locks and of conditions have no access by which a permit is given back: what is told of releases, by
+-- the accesses that were made with a pass, is the same after them.
 use Rattle.std.proofs.Common.{◌≡◌, ℕ, Bool, true, false, List, [], ◌∷◌, ◌++◌, Some, ◌⊎◌, inl, inr, refl, sym, ap, subst, ◌∙◌}
 use Rattle.std.specs.List.{All, fold}
 use Rattle.std.proofs.lemmas.List.Elements.{All-nil, All-cons, All-head, All-tail, All-append}

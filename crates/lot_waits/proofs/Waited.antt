@@ -1,4 +1,5 @@
--- How a pass stands that was enlisted on a condition, let its lock go, and found its letter; and when it has the lock again.
+-- How a pass stands that was enlisted on a condition, let its lock go, and found its letter; and when it has the lock
+-- again.
 use Rattle.std.proofs.Common.{◌≡◌, ℕ, zero, suc, false, List, [], ◌∷◌, ◌++◌, Some, None, inr, refl, sym, ap, subst, ◌∙◌}
 use Rattle.std.specs.List.{All}
 use Rattle.std.proofs.lemmas.List.{append-nil, append_assoc}

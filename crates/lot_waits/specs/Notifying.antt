@@ -25,8 +25,8 @@ one_if true = 1
 one_if false = 0
 
 -- ---- traces
--- A notification that takes at most n, after a look that found the flag set; and what it took, so many. It leaves the flag set only where
--- it took somebody.
+-- A notification that takes at most n, after a look that found the flag set; and what it took, so many. It leaves the
+-- flag set only where it took somebody.
 abbrev pub CallTrace : ℕ → ℕ → ℕ → ℕ → List Access → Type 0
 CallTrace t c n taken acts =
     (more : Bool) × (more ≡ true → 0 < taken)

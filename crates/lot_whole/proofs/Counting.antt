@@ -55,7 +55,8 @@ module _ {V Part : Type 0} (rule : CallersRule V Part) (z : LotSize) (xs : List 
   owed_known w c (Sem q) is = owed_by_kind rule z xs w c sem_kind is.0
       ∙ (owed_here (sizes_in z sem_kind) number_of (w.each sem_kind).owes c is.0 ∙ ap number_of is.1.2)
 
-  -- as many were queued at a root's key as were told that they were taken from its line, are owed that, or are there still
+  -- as many were queued at a root's key as were told that they were taken from its line, are owed that, or are there
+  -- still
   pub queued_known : (w : LotWorld rule z xs) (ws : List ℕ) (hs : List (maybe.Option (Option V))) (c : ℕ) (own : LotRootView)
       → LotFits rule z xs w ws hs → LotRootIs rule z xs w c own
       → (log : List Entry) → IsLogOf z log ((lot_meaning rule z xs).told_by w)

@@ -350,7 +350,8 @@ module _ (z : LotSize) where
         (in_or_not (line_in run.1.0.part j c) t)
 
 -- ---- the law
--- in the log of a lot the thread t was queued at the key c by its access x, and collected a letter by its later access y
+-- in the log of a lot the thread t was queued at the key c by its access x, and collected a letter by its later access
+-- y
 module _ (z : LotSize) (log : List Entry) (b : Telling StateView) (run : IsLogOf z log b) (j : Which) (t c token : ℕ) (front : List Access)
     (x : Access) (between : List Access) (y : Access) (back : List Access)
     (mine : accesses_of (2 * t) log ≡ front ++ x ∷ (between ++ y ∷ back)) (queues : Queues j t c x)

@@ -1,4 +1,5 @@
--- An event that its own part allows is one of the whole, where its thread stands as it asks; and how threads stand after it.
+-- An event that its own part allows is one of the whole, where its thread stands as it asks; and how threads stand
+-- after it.
 use Rattle.std.proofs.Common.{◌≡◌, ◌≢◌, ℕ, true, false, List, [], ◌∷◌, refl, sym, ap, subst, ◌∙◌}
 use Rattle.std.specs.Prelude.{not, ◌+◌, if◌then◌else◌}
 use Rattle.std.specs.List.{Contains}

@@ -71,8 +71,8 @@ paid (Lock q) t = Lock (lock_paid q)
 paid (Cond q) t = Cond (cond_paid q t)
 paid (Sem q) t = Sem (sem_paid q)
 
--- what a thread counts with a root in hand: of its key, how many were told that they were taken from the line, how many of
--- these were handed the lock, and how many are in the line
+-- what a thread counts with a root in hand: of its key, how many were told that they were taken from the line, how many
+-- of these were handed the lock, and how many are in the line
 abbrev pub counting : ℕ → RootShown LotRootView → Access
 counting t q = Counts t q.key (length q.made) (handed_in q.made) (length (line_of_root q.own))
 

@@ -21,7 +21,8 @@ abbrev pub HasDone : {V : Type 0} → PassShown (LotPassView V) → Type 0
 HasDone p = ((l : ℕ) → ¬ Holds p.own.locks l) × (p.own.conds.out ≡ None)
 
 module _ {V : Type 0} where
-  -- the ledger of c: how many sleepers these passes took from its line, and how many of their waits on it found their letter
+  -- the ledger of c: how many sleepers these passes took from its line, and how many of their waits on it found their
+  -- letter
   abbrev pub called_in : List (PassShown (LotPassView V)) → ℕ → ℕ
   called_in passes c = sum_by (λ (p : PassShown (LotPassView V)). slice_index p.own.conds.called c) passes
 
@@ -42,11 +43,10 @@ LineIs s l (Lock q) = s.locks.line l ≡ q.line
 LineIs s c (Cond q) = s.conds.line c ≡ q.line
 LineIs s k (Sem q) = s.sems.line k ≡ q.line
 
--- One history was made with these rights, and each shows its own entries of it, in their order. Without its notices
--- it is one run of the whole
--- model, from the opening to a sound state, which has the lines that the roots tell; as many threads were queued at a key as were told that
--- they were taken from its line, are owed that, or are there still; and the permits that the state has left and those that are out with the
--- passes are together all that there were
+-- One history was made with these rights, and each shows its own entries of it, in their order. Without its notices it
+-- is one run of the whole model, from the opening to a sound state, which has the lines that the roots tell; as many
+-- threads were queued at a key as were told that they were taken from its line, are owed that, or are there still; and
+-- the permits that the state has left and those that are out with the passes are together all that there were
 pub record IsToldTo {V : Type 0} (z : LotSize) (passes : List (PassShown (LotPassView V)))
     (roots : List (RootShown LotRootView)) : Type 0 where
   pub recounted : IsRecounted WholeStep (word_in z) (waiting_in z) IsQueued (no_letters (opening_of z)) passes roots

@@ -1,4 +1,5 @@
--- The three kinds of key that a lot has, and what each kind says of words and rights: each statement about a lot is made once, of a kind j.
+-- The three kinds of key that a lot has, and what each kind says of words and rights: each statement about a lot is
+-- made once, of a kind j.
 use Rattle.std.specs.Prelude.{ℕ, ◌+◌, Bool, List, [], length, Option, is_some}
 use mathlib.Core.Option as maybe
 use Rattle.lot_core.specs.Model.{StateView}
@@ -26,8 +27,8 @@ pub data Which : Type 0 where
   cond : Which
   sem : Which
 
--- how many threads, locks and conditions a lot has, and how many permits each semaphore has at the opening. The keys' numbers follow one
--- another: those of the locks, then those of the conditions, then those of the semaphores
+-- how many threads, locks and conditions a lot has, and how many permits each semaphore has at the opening. The keys'
+-- numbers follow one another: those of the locks, then those of the conditions, then those of the semaphores
 pub record LotSize : Type 0 where
   pub threads : ℕ
   pub locks : ℕ

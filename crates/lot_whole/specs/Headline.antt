@@ -46,7 +46,8 @@ module _ {V Part : Type 0} (rule : CallersRule V Part) (z : LotSize) (xs : List 
     pub state : StateView
     -- the words of all keys stand for it
     pub words : (j : Which) (c : ℕ) → IsKeyIn z j c → slice_index s.words (word_at c) ≡ word_in z state c
-    -- and so do the rights: its part of each kind is what that kind's world tells, and each thread stands as its pass says
+    -- and so do the rights: its part of each kind is what that kind's world tells, and each thread stands as its pass
+    -- says
     pub parts : (j : Which) → part_in rule z xs j state ≡ ((meaning_of rule z xs j).told_by (here.world.each j)).part
     pub stands : (t : ℕ) → t < z.threads → stand_of (state.point t) ≡ (here.world.pass t).stand
     -- the history without its notices has led to it
@@ -59,9 +60,10 @@ module _ {V Part : Type 0} (rule : CallersRule V Part) (z : LotSize) (xs : List 
     pub one_letter : (t : ℕ) → t < z.threads → (j k : Which) → away V j (own_of V (here.world.pass t) j) ≡ true
         → away V k (own_of V (here.world.pass t) k) ≡ true → j ≡ k
 
-  -- with it, of the worlds that tell its parts, what each kind promises of its own: letters fit in all three, locks have
-  -- one owner at most and someone tries to get a free one with sleepers, values are lawful, and the ledger is balanced.
-  -- (That no sleeper of a condition is forgotten is said of the whole state: `someone_sweeps` of its soundness.)
+  -- with it, of the worlds that tell its parts, what each kind promises of its own: letters fit in all three, locks
+  -- have one owner at most and someone tries to get a free one with sleepers, values are lawful, and the ledger is
+  -- balanced. (That no sleeper of a condition is forgotten is said of the whole state: `someone_sweeps` of its
+  -- soundness.)
   pub record Promises (s : State (Option V) (List (Right (LotPassView V) LotRootView)))
       (here : Ruled (lot_meaning rule z xs) s) : Type 0 where
     pub whole : OneState s here

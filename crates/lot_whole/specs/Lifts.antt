@@ -63,7 +63,8 @@ module _ {V Part : Type 0} (rule : CallersRule V Part) (z : LotSize) (xs : List 
       → LotPassIs rule z xs w p.thread p.own → LotRootIs rule z xs w q.key (root_from j q.own) → Fact w
 
   -- ---- of a pass
-  -- what the kind's step tells of the pass, `told`, is enough for the lot's step to be one of the whole, and to tell `whole`
+  -- what the kind's step tells of the pass, `told`, is enough for the lot's step to be one of the whole, and to tell
+  -- `whole`
   abbrev pub CarriesPass : (j : Which) → PassShown (LotPassView V) → (ℕ → PassShown (PassIn V j) → Type 0)
       → (ℕ → PassShown (LotPassView V) → Type 0) → Type 0
   CarriesPass j p told whole = (n : ℕ) (own : PassIn V j) (a : Access) → ((k : ℕ) → told n (pass_after (part_pass j p) own k a))

@@ -1,4 +1,5 @@
--- The rule of a lot's table: there is one state of the whole model, and a world of each kind, that the words and the rights stand for.
+-- The rule of a lot's table: there is one state of the whole model, and a world of each kind, that the words and the
+-- rights stand for.
 use Rattle.std.specs.Prelude.{◌≡◌, ◌⊎◌, ℕ, ◌+◌, ◌<◌, true, List, [], length, slice_index, nat_lt, if◌then◌else◌, Option}
 use Rattle.std.specs.List.{Contains}
 use Rattle.std.proofs.Common.{sym, ◌∙◌}
@@ -82,7 +83,8 @@ names (Cond q) u = Contains q.line u ⊎ Contains q.owes u
 names (Sem q) u = sem_names q u
 
 module _ {V Part : Type 0} (rule : CallersRule V Part) (z : LotSize) (xs : List V) where
-  -- the world of each kind, and the words as that kind would have them alone; what each pass knows; and the state of the whole model
+  -- the world of each kind, and the words as that kind would have them alone; what each pass knows; and the state of
+  -- the whole model
   pub record LotWorld : Type 0 where
     pub each : (j : Which) → (meaning_of rule z xs j).World
     pub words : Which → List ℕ
@@ -95,14 +97,16 @@ module _ {V Part : Type 0} (rule : CallersRule V Part) (z : LotSize) (xs : List 
   abbrev pub owed_in : LotWorld → Which → ℕ → ℕ
   owed_in w j = (meaning_of rule z xs j).owed_in (w.each j)
 
-  -- the pass p of the thread t is what each kind says of it; it is away in one kind at most, and tells how the thread stands
+  -- the pass p of the thread t is what each kind says of it; it is away in one kind at most, and tells how the thread
+  -- stands
   pub record PassOk (w : LotWorld) (t : ℕ) (p : LotPassView V) : Type 0 where
     pub each : (j : Which) → (meaning_of rule z xs j).PassFits (w.each j) t (own_of V p j)
     pub apart : (j k : Which) → away V j (own_of V p j) ≡ true → away V k (own_of V p k) ≡ true → j ≡ k
     pub stand : stand_of (w.whole.point t) ≡ p.stand
 
-  -- the words and the slots stand for the world: each kind's words and letters do so for that kind, and the parts of the whole state, which
-  -- a run of the model reaches and which is in order, are what the kinds tell; no letter lies for a thread that is in a line
+  -- the words and the slots stand for the world: each kind's words and letters do so for that kind, and the parts of
+  -- the whole state, which a run of the model reaches and which is in order, are what the kinds tell; no letter lies
+  -- for a thread that is in a line
   pub record LotFits (w : LotWorld) (ws : List ℕ) (hs : List (maybe.Option (Option V))) : Type 0 where
     pub parts : (j : Which) → (meaning_of rule z xs j).Fits (w.each j) (w.words j) (homes_in j hs)
     pub wide : length ws ≡ word_count z.threads (key_count z)

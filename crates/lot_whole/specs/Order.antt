@@ -1,5 +1,5 @@
--- In which order: a letter that a thread collects after it was queued comes after the event that took it from the line, and what a thread
--- counts is so of the entries before that.
+-- In which order: a letter that a thread collects after it was queued comes after the event that took it from the line,
+-- and what a thread counts is so of the entries before that.
 use Rattle.std.specs.Prelude.{◌≡◌, ℕ, ◌+◌, ◌*◌, ◌<◌, ◌==◌, ◌++◌, true, cond as either, List, [], ◌∷◌, length, map, sum_by, Some}
 use Rattle.std.specs.List.{Contains}
 use Rattle.lot_core.specs.Model.{StateView}
@@ -49,7 +49,8 @@ abbrev pub accesses_of : ℕ → List Entry → List Access
 accesses_of i log = map (λ (x : Entry). x.access) (entries_of i log)
 
 -- Of a log in which the thread t has made the accesses `front`, then x, then those `between`, and then y: it has an
--- entry between x and y by which t was taken from the line of the key c. That is an event of a thread, whose pass shows it
+-- entry between x and y by which t was taken from the line of the key c. That is an event of a thread, whose pass shows
+-- it
 pub record WasTaken (z : LotSize) (j : Which) (t c : ℕ) (log : List Entry) (front : List Access) (x : Access)
     (between : List Access) (y : Access) : Type 0 where
   -- the log: what was made before x, x, and so on to y and what was made after it
@@ -99,9 +100,9 @@ queued_by c _ = 0
 abbrev pub queued_in : ℕ → List Entry → ℕ
 queued_in c log = sum_by (λ (x : Entry). queued_by c x.access) log
 
--- Of a log in which the thread t has made the accesses `front`, and then counted so of the key c: so many of the entries before that told
--- threads that they were taken from the line of c, and so many of these handed the lock over; so many threads were in the line; and so
--- many had been queued at c as were told and waited
+-- Of a log in which the thread t has made the accesses `front`, and then counted so of the key c: so many of the
+-- entries before that told threads that they were taken from the line of c, and so many of these handed the lock over;
+-- so many threads were in the line; and so many had been queued at c as were told and waited
 pub record IsCounted (z : LotSize) (t c : ℕ) (log : List Entry) (front : List Access) (told handed waiting : ℕ) : Type 0 where
   pub before : List Entry
   pub entry : Entry

@@ -35,8 +35,8 @@ module _ {V : Type 0} where
   abbrev pub keys_of : LotPassView V → Keys
   keys_of p = record { locks = Holds p.locks; permits = slice_index p.sems.out }
 
-  -- it may wait for the key k, so far as the order of keys asks: where it stands idle, all that it has lies below. Who wants, seeks or
-  -- rests has shown it
+  -- it may wait for the key k, so far as the order of keys asks: where it stands idle, all that it has lies below. Who
+  -- wants, seeks or rests has shown it
   abbrev pub MayAsk : (ℕ → ℕ → Type 0) → LotPassView V → ℕ → Type 0
   MayAsk above p k = IsIdle p → AllBelow above (keys_of p) k
 

@@ -1,4 +1,5 @@
--- The state of the whole model: how a thread stands at a condition, what an access does to it all, and the word of each key.
+-- The state of the whole model: how a thread stands at a condition, what an access does to it all, and the word of each
+-- key.
 use Rattle.std.specs.Prelude.{◌≡◌, ◌≢◌, ℕ, ◌+◌, true, List, length, nat_lt, if◌then◌else◌}
 use Rattle.std.specs.List.{Contains}
 use Rattle.lot_core.specs.Model.{StateView, put, opening_with}
@@ -114,8 +115,8 @@ opening_of z = opening_with z.threads z.locks z.conds z.permits
 
 -- ---- how a step of one kind and the whole fit together
 module _ {V Part : Type 0} (rule : CallersRule V Part) (z : LotSize) (xs : List V) where
-  -- what a step of the kind j, whose event leads its part to b, is to the whole: it is allowed there, sees the same, leads the part to the
-  -- same, and leaves the others
+  -- what a step of the kind j, whose event leads its part to b, is to the whole: it is allowed there, sees the same,
+  -- leads the part to the same, and leaves the others
   pub record Joined (j : Which) (s : StateView) (e : Event) (saw : Seen) (b : (meaning_of rule z xs j).Part) : Type 0 where
     pub allowed : Allowed s e
     pub saw_is : saw ≡ seen s e

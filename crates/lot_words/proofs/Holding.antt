@@ -1,4 +1,5 @@
--- A lock is got, wanted, marked, let go, or found parked, and a thread queues on it: the rule of threads and locks is kept.
+-- A lock is got, wanted, marked, let go, or found parked, and a thread queues on it: the rule of threads and locks is
+-- kept.
 use Rattle.std.proofs.Common.{◌≡◌, ◌≢◌, ℕ, ◌<◌, Bool, true, false, [], ◌∷◌, ◌++◌, length, refl, sym, ap, subst, ◌∙◌, arith}
 use Rattle.std.proofs.Common.{length-set, get_or-set_other, Some, None}
 use Rattle.std.specs.List.{Contains}

@@ -1,4 +1,5 @@
--- A lock is passed on to the first of its line, a letter is posted, a letter is collected: the rule of threads and locks is kept.
+-- A lock is passed on to the first of its line, a letter is posted, a letter is collected: the rule of threads and
+-- locks is kept.
 use Rattle.std.proofs.Common.{◌≡◌, ◌≢◌, ℕ, ◌<◌, ◌⊎◌, Bool, true, false, List, [], ◌∷◌, length, refl, sym, ap, subst}
 use Rattle.std.proofs.Common.{◌∙◌, inl, inr, ⊎_elim, arith}
 use Rattle.std.proofs.Common.{get_or-set_other, Option, Some, None}

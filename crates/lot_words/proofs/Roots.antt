@@ -1,4 +1,5 @@
--- The turns of the calls that take a lock's root: queueing on the lock, passing it on, and posting the letter that is owed.
+-- The turns of the calls that take a lock's root: queueing on the lock, passing it on, and posting the letter that is
+-- owed.
 use Rattle.std.proofs.Common.{◌≡◌, ◌≢◌, ℕ, zero, suc, ◌+◌, ◌*◌, ◌<◌, ◌⊎◌, ◌&&◌, ◌==◌, Bool, true, false, List, [], ◌∷◌, ◌++◌, get_or, set}
 use Rattle.std.proofs.Common.{refl, sym, ap, subst, ◌∙◌, inl, inr, arith, Option, Some, None, is_some}
 use mathlib.Core.Option as maybe

@@ -79,7 +79,8 @@ module _ {V Part : Type 0} (rule : CallersRule V Part) where
   abbrev pub GetsBy : PassShown (LockPassView V) → ℕ → Access → PassShown (LockPassView V) → Type 0
   GetsBy p l a q = (x : V) × FoundOk rule l p.thread p.own x × Notes p (owning p.own l x) a q
 
-  -- q is the pass p, which was asleep, after it collected a letter: a barging opportunity, or the lock itself, with the value found
+  -- q is the pass p, which was asleep, after it collected a letter: a barging opportunity, or the lock itself, with the
+  -- value found
   abbrev pub Collected : PassShown (LockPassView V) → ℕ → PassShown (LockPassView V) → Type 0
   Collected p zero q = (p.own.asleep ≡ true) × Notes p (woken p.own) (Collects p.thread (Some 0)) q
   Collected p (suc k) q =

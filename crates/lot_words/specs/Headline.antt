@@ -1,5 +1,6 @@
--- What a table of lock words promises: at every moment all of this holds, of one world. Each lock has one owner at most, sleepers are
--- marked, someone is trying, each notice is in one place, the values are lawful, and one legal history has led here.
+-- What a table of lock words promises: at every moment all of this holds, of one world. Each lock has one owner at
+-- most, sleepers are marked, someone is trying, each notice is in one place, the values are lawful, and one legal
+-- history has led here.
 use Rattle.std.specs.Prelude.{◌≡◌, ◌≢◌, ◌↔◌, ℕ, ◌<◌, ◌⊎◌, true, false, List, [], Option, Some}
 use Rattle.std.specs.List.{Contains}
 use Rattle.atomic_table.specs.Table.{State}
@@ -16,8 +17,8 @@ use Rattle.lot_words.specs.Values.{IsLawful}
 use Rattle.lot_words.specs.Rule.{sizes_of, part_of, meaning}
 
 module _ {V : Type 0} (w : LockWorld V) where
-  -- Letters fit: a thread that was queued and has not collected is in the line of the lock that it wants, or is owed a letter by that root
-  -- alone, or a letter lies for it; the others have none. A letter tells the truth
+  -- Letters fit: a thread that was queued and has not collected is in the line of the lock that it wants, or is owed a
+  -- letter by that root alone, or a letter lies for it; the others have none. A letter tells the truth
   pub record LettersFit : Type 0 where
     pub asleep : (t : ℕ) → ((w.pass t).asleep ≡ true) ↔ (w.spot t ≢ awake)
     pub aims : (t l : ℕ) → waits_on (w.spot t) ≡ Some l → (w.pass t).aim ≡ Some l
@@ -30,7 +31,8 @@ module _ {V : Type 0} (w : LockWorld V) where
   -- of n threads
   pub record IsSound (n : ℕ) : Type 0 where
     pub one_owner : OneOwner (part_of w).locks.held (part_of w).locks.has
-    -- who has a lock, and who wants one: his pass says so, unless the lock was handed to him and he has not collected
+    -- a thread that has a lock, or wants one: its pass says so, unless the lock was handed to it and it has not
+    -- collected
     pub has_is : (l t : ℕ) → ((part_of w).locks.has l t ≡ true) ↔ (Holds (w.pass t) l ⊎ IsHanded (w.spot t) l)
     pub wants_is : (l t : ℕ) → ((part_of w).wants t ≡ Some l) ↔ (((w.pass t).aim ≡ Some l) × ¬ IsHanded (w.spot t) l)
     pub sleepers_are_marked : SleepersAreMarked (part_of w).locks.line (part_of w).locks.parked

@@ -1,5 +1,5 @@
--- The rule of a table of lock words: there is a world that the words, the slots and the rights stand for, with lawful values, and it tells
--- the lock part of the model.
+-- The rule of a table of lock words: there is a world that the words, the slots and the rights stand for, with lawful
+-- values, and it tells the lock part of the model.
 use Rattle.std.specs.Prelude.{◌≡◌, ℕ, zero, suc, ◌⊎◌, false, List, [], length, replicate, Option, Some, None, is_some}
 use Rattle.std.specs.List.{Contains}
 use Rattle.std.proofs.Common.{sym, ap, ◌∙◌}

@@ -69,8 +69,8 @@ module _ {V Part : Type 0} (rule : CallersRule V Part) where
   MayLie l t x Out = Unit {0}
   MayLie l t x Moving = Unit {0}
 
-  -- the value x that t finds in l, of which its pass tells: it keeps the rule, has grown from what t had seen of it, and has t's part of
-  -- that
+  -- the value x that t finds in l, of which its pass tells: it keeps the rule, has grown from what t had seen of it,
+  -- and has t's part of that
   pub record FoundOk (l t : ℕ) (p : LockPassView V) (x : V) : Type 0 where
     pub tells : TellsOf p l
     pub kept : rule.keeps l x

@@ -65,7 +65,8 @@ module _ {V : Type 0} (n : ℕ) (word : ℕ → LockWord) (root : ℕ → LockRo
   abbrev pub Sleeps : ℕ → LockPassView V → ℕ → Type 0
   Sleeps t p l = (t < n) × (p.asleep ≡ true) × (p.aim ≡ Some l)
 
-  -- letters: a pass that was queued and has not collected is in its lock's line, or has exactly one letter, owed or lying
+  -- letters: a pass that was queued and has not collected is in its lock's line, or has exactly one letter, owed or
+  -- lying
   abbrev pub SpotFits : ℕ → LockPassView V → Spot → Type 0
   SpotFits t p awake = p.asleep ≡ false
   SpotFits t p (queued l) = Sleeps t p l × Contains (root l).line t

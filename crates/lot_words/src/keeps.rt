@@ -6,8 +6,8 @@ ghost use Rattle.lot_words.specs.Rested.{Rested};
 /// back into a lock has to keep the rule, and every owner may then rely on it. Contracts name the rule `V.Keeps`.
 ///
 /// - `keeps k v`: the value `v` may lie in the lock of key `k`.
-/// - `grows a b`: `b` goes on from `a`. Whoever gets a lock finds a value that has grown from all that he had seen of
-///   it.
+/// - `grows a b`: `b` goes on from `a`. Whoever gets a lock finds a value that has grown from all that the same
+///   thread had seen of it.
 /// - `part t v`: what of `v` belongs to the thread `t`. Only `t` may change it.
 /// - `rests p`: what a thread shows when it leaves, of what it has seen, counted and done, as that it leaves its own
 ///   part of each value as it found it. Whoever registers, or takes a pass that was left, has it. Where it is left out,

@@ -34,7 +34,7 @@ pub(super) fn take_any<V: Keeps>(
     words.take(pass, key)
 }
 
-/// Looks for a letter: to whom the lock that he wants was handed owns it.
+/// Looks for a letter: a thread to which the lock that it wants was handed owns it.
 pub(super) fn collect_any<V: Keeps>(
     words: &LockWords<V>,
     pass: LockPass<V>,
