@@ -13,11 +13,18 @@ use Rattle.lot_sync.specs.Lot.{LotView, PassView, ◌≈◌, HeldView, Owns, Own
 use Rattle.lot_sync.specs.Traces.{Adds, NotifyTrace}
 use Rattle.lot_sync.specs.Values.{Gets, MayGiveBack}
 use Rattle.lot_calls.specs.Visits.{own_parts, MayBecome}
-use Rattle.lot_calls.specs.Waits.{AfterWaits, woken_from}
+use Rattle.lot_calls.specs.Waits.{AfterWaits, WaitsWhile, woken_from}
 use Rattle.lot_calls.specs.Traces.{WaitsTrace, GetAfterTrace}
 use Rattle.lot_calls.proofs.Visiting.{set_back, finds}
 use Rattle.lot_regions.specs.Traces.{TellTrace, LeaveTrace, ChangeTrace, WhenTrace}
 use Rattle.lot_regions.specs.Regions.{Region, HasGot}
+
+-- ---- which values the waits began with
+pub waits_map : {V : Type 0} (grows : V → V → Type 0) (unready not_wanted : V → Type 0) → ((x : V) → unready x → not_wanted x)
+    → (n : ℕ) (first last : V) → WaitsWhile grows unready n first last → WaitsWhile grows not_wanted n first last
+waits_map grows unready not_wanted f zero first last same = same
+waits_map grows unready not_wanted f (suc n) first last (mid, before, began, grown) =
+    (mid, waits_map grows unready not_wanted f n first mid before, f mid began, grown)
 
 -- ---- which accesses were made
 module _ (told : ℕ → Bool) (t l now first behind : ℕ) (before mid after : List Access) where

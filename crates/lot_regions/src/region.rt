@@ -1,9 +1,10 @@
 //! Regions: work on the value of a lock after which each condition is told for which the value is ready.
-ghost use Rattle.std.specs.Prelude.{◌≡◌, ◌<◌, ◌≤◌, ◌-◌, ℕ, true};
+ghost use Rattle.std.specs.Prelude.{◌≡◌, ◌<◌, ◌≤◌, ◌-◌, ℕ, true, false};
 ghost use Rattle.lot_sync.specs.Lot.{◌≈◌, Owns, OwnsNone, HasSeen, HasShape, letting_go};
 ghost use Rattle.lot_sync.specs.Traces.{Adds};
 ghost use Rattle.lot_sync.specs.Values.{MayGiveBack};
 ghost use Rattle.lot_calls.specs.Visits.{MayBecome, Finds};
+ghost use Rattle.lot_calls.specs.Waits.{WaitsWhile};
 ghost use Rattle.lot_regions.specs.Traces.{LeaveTrace, ChangeTrace, WhenTrace};
 ghost use Rattle.lot_regions.specs.Regions.{AreConds, Region};
 
@@ -48,7 +49,8 @@ pub fn change<
     (leave(rt, lot, pass, held, first, behind, moment), outcome)
 }
 
-/// `change` once the value is ready for the condition, one of the lock's: until then it waits there.
+/// `change` once the value is ready for the condition, one of the lock's: until then it waits there, and each wait
+/// begins with a value that is not.
 /// `let (pass, item) = when(rt, lot, pass, LINE, NOT_EMPTY, now, |line| line.take());`.
 pub fn when<
     V: Ready + Send,
@@ -76,7 +78,8 @@ pub fn when<
     ensures visits { (v : _) × (w : _) × F.post work v result.1 w × Region V.Keeps pass key v.now w.now result.0
         × (V.ready cond v.now ≡ true)
         × ((count : ℕ) × Adds pass.made (WhenTrace (λ c. V.ready c w.now) pass.thread cond count key moment.now
-        (V.first key) (V.behind key - V.first key)) result.0.made) }
+        (V.first key) (V.behind key - V.first key)) result.0.made × ((first : V) × Finds V.Keeps pass key first
+        × WaitsWhile V.grows (λ x. V.ready cond x ≡ false) count first v.now)) }
     ensures shape { HasShape lot.now result.0 }
     ensures free { OwnsNone result.0 }
 {

@@ -1,10 +1,12 @@
-use Rattle.std.proofs.Common.{◌≡◌, ◌-◌, ℕ, Bool, true, rules, subst, sym, ap, ◌∙◌}
+use Rattle.std.proofs.Common.{◌≡◌, ◌-◌, ℕ, Bool, true, false, rules, subst, sym, ap, ◌∙◌}
 use Rattle.lot_sync.specs.Lot.{PassView}
 use Rattle.lot_sync.specs.Traces.{Adds}
 use Rattle.lot_sync.proofs.Below.{none_below, got_waits}
 use Rattle.lot_regions.specs.Traces.{WhenTrace}
 use Rattle.lot_regions.specs.Regions.{HasGot}
-use Rattle.lot_regions.proofs.Leaving.{got_after_waits, region, back, got_after_made, when_made}
+use Rattle.lot_calls.specs.Waits.{WaitsWhile}
+use Rattle.lot_calls.proofs.Visiting.{finds_got}
+use Rattle.lot_regions.proofs.Leaving.{got_after_waits, region, back, got_after_made, when_made, waits_map}
 use Rattle.lot_regions.proofs.region.when.Goals as goal
 
 -- whoever owned nothing may wait with the lock that it got
@@ -56,6 +58,17 @@ returns-clause-visits g c =
             (WhenTrace told p.thread c.args.cond waits.count c.args.key c.args.moment.now c.first_of-first.result
             (b - c.first_of-first.result))
             c.leave.result.made) c.behind_of-behind.ensures made),
+        (
+          held.value,
+          finds_got g.V.Keeps p q c.args.key held gets c.args.lot.now c.requires.key c.lock-pass.ensures.shape,
+          subst (λ w. WaitsWhile g.V.Keeps.grows (λ x. g.V.Ready.ready c.args.cond x ≡ false) waits.count held.value w)
+              (sym c.value_mut.ensures.value)
+              (waits_map g.V.Keeps.grows _ (λ x. g.V.Ready.ready c.args.cond x ≡ false)
+              (λ x u.
+              let (y, is, answers) = u in
+              subst (λ z. g.V.Ready.ready c.args.cond z ≡ false) is (search rules))
+              waits.count held.value c.wait_until-pass.result.1.value waits.while),
+        ),
       ),
     )
 
