@@ -15,7 +15,7 @@ use Rattle.lot_sync.specs.Values.{Gets, MayGiveBack}
 use Rattle.lot_sync.proofs.Holdings.{may_go_back}
 use Rattle.lot_calls.specs.Traces.{VisitTrace, NestedTrace}
 use Rattle.lot_calls.specs.Visits.{own_parts, MayBecome, Finds, VisitsBoth}
-use Rattle.lot_calls.proofs.Visiting.{set_back, finds, finds_got}
+use Rattle.lot_calls.proofs.Visiting.{set_back, finds}
 
 -- the second lock is not owned when the first was got
 pub second_free : {V Part : Type 0} (rule : CallersRule V Part) (p q : PassView V) (a : HeldView V) (k l : ℕ) → l ≢ k → ¬ Owns p l
@@ -34,20 +34,6 @@ module _ {V Part : Type 0} (rule : CallersRule V Part) (p q r : PassView V) (a b
     where
       before : (u : V) → HasSeen p l u → HasSeen q l u
       before u seen = ap (λ (z : PassView V). get_elem? z.seen l) got.after_is ∙ (set_else p.seen k l a.value two ∙ seen)
-
-  -- both values as the work finds them: each keeps the rule, and may be what the pass knows of it
-  pub both_found : (v w : V) → v ≡ a.value → w ≡ b.value → (lot : LotView) → k < lot.locks → l < lot.locks → HasShape lot q
-      → rule.keeps k v × (rule.keeps l w × (Finds rule p k v × Finds rule p l w))
-  both_found v w is is' lot is_lock is_lock' shape = (
-    subst (rule.keeps k) (sym is) got.kept,
-    (
-      subst (rule.keeps l) (sym is') got'.kept,
-      (
-        subst (Finds rule p k) (sym is) (finds_got rule p q k a got lot is_lock shape),
-        subst (Finds rule p l) (sym is') (finds_second lot is_lock' shape),
-      ),
-    ),
-  )
 
   module _ (y : V) (may' : MayBecome rule l p.thread b.value y) where
     -- the second value may be given back
