@@ -6,5 +6,4 @@ pub mod Accounts
 pub mod Dinner
 pub mod Rooms
 pub mod Tasks
-pub mod Names
 pub mod Parts

@@ -15,7 +15,7 @@ use Rattle.lot_sync.specs.Values.{Gets, MayGiveBack}
 use Rattle.lot_sync.proofs.Holdings.{may_go_back}
 use Rattle.lot_calls.specs.Traces.{VisitTrace, NestedTrace}
 use Rattle.lot_calls.specs.Visits.{own_parts, MayBecome, Finds, VisitsBoth}
-use Rattle.lot_calls.proofs.Visiting.{set_back, finds}
+use Rattle.lot_calls.proofs.Visiting.{set_back, finds, finds_got}
 
 -- the second lock is not owned when the first was got
 pub second_free : {V Part : Type 0} (rule : CallersRule V Part) (p q : PassView V) (a : HeldView V) (k l : ℕ) → l ≢ k → ¬ Owns p l
@@ -26,7 +26,7 @@ second_free rule p q a k l two free got owns =
 module _ {V Part : Type 0} (rule : CallersRule V Part) (p q r : PassView V) (a b : HeldView V) (k l : ℕ) (two : l ≢ k)
     (free_first : ¬ Owns p k) (free_second : ¬ Owns p l) (got : Gets rule p k a q) (got' : Gets rule q l b r) where
   -- the second was found by a pass that has seen of it what it had seen before
-  pub finds_second : (lot : LotView) → l < lot.locks → HasShape lot q → Finds rule p l b.value
+  finds_second : (lot : LotView) → l < lot.locks → HasShape lot q → Finds rule p l b.value
   finds_second lot is_lock shape = finds rule p l b.value got'.kept (λ u seen. got'.grown u (before u seen))
       (λ u seen. subst (λ t. rule.part t u ≡ rule.part t b.value) (ap (λ (z : PassView V). z.thread) got.after_is)
       (got'.mine u (before u seen)))
@@ -34,6 +34,16 @@ module _ {V Part : Type 0} (rule : CallersRule V Part) (p q r : PassView V) (a b
     where
       before : (u : V) → HasSeen p l u → HasSeen q l u
       before u seen = ap (λ (z : PassView V). get_elem? z.seen l) got.after_is ∙ (set_else p.seen k l a.value two ∙ seen)
+
+  -- what the work on both is told of the values that it finds
+  pub finds_both : (v w : V) → v ≡ a.value → w ≡ b.value → (lot : LotView) → k < lot.locks → l < lot.locks → HasShape lot q
+      → rule.keeps k v × rule.keeps l w × Finds rule p k v × Finds rule p l w
+  finds_both v w here there lot is_lock is_lock' shape = (
+    subst (rule.keeps k) (sym here) got.kept,
+    subst (rule.keeps l) (sym there) got'.kept,
+    subst (Finds rule p k) (sym here) (finds_got rule p q k a got lot is_lock shape),
+    subst (Finds rule p l) (sym there) (finds_second lot is_lock' shape),
+  )
 
   module _ (y : V) (may' : MayBecome rule l p.thread b.value y) where
     -- the second value may be given back

@@ -2,14 +2,16 @@
 use Rattle.std.proofs.Common.{◌≡◌, ℕ, ◌<◌, Bool, true, false, MatchBool, List, [], ◌∷◌, zero, suc, length, map, get_or, slice_get, Some}
 use Rattle.std.proofs.Common.{refl, sym, ap, ap₂, subst, ◌∙◌, arith}
 use Rattle.std.specs.List.{sum_by, All}
-use mathlib.Core.Option.{some}
+use mathlib.Core.Option.{some, some-injective}
 use lib.ListN.{get_elem?}
+use Rattle.lot_rights.proofs.Totals.{any_all}
 use Rattle.lot_words.specs.CallersRule.{CallersRule}
-use Rattle.lot_sync.specs.Lot.{LotNames, LotView, PassView}
-use Rattle.lot_sync.specs.Values.{GoesOnTo}
+use Rattle.lot_words.proofs.Opens.{get_as}
+use Rattle.lot_sync.specs.Lot.{LotNames, LotView, PassView, HasSeen}
+use Rattle.lot_sync.specs.Values.{GoesOnTo, AreSeen}
 use Rattle.lot_calls.specs.Visits.{own_parts}
 use Rattle.lot_calls.specs.Finished.{IsReady, AreTaken, IsFinished}
-use Rattle.lot_calls.specs.Workers.{EachBecomes, ComesBack, AreBack, MayLeave, EndsIn, HasWorked}
+use Rattle.lot_calls.specs.Workers.{EachBecomes, ComesBack, AreBack, MayLeave, HaveGrown, EndsIn, HasWorked}
 use Rattle.lot_calls.proofs.Sums.{sum_below, sum_below_alike, sum_of_parts}
 
 -- two lists of which as much is told at each place
@@ -26,6 +28,19 @@ at_again : {A : Type 0} (xs : List A) (i : ℕ) (d e : A) → i < length xs → 
 at_again [] i d e near = absurd (omega (arith, near))
 at_again (x ∷ xs) zero d e near = refl
 at_again (x ∷ xs) (suc i) d e near = at_again xs i d e (omega (arith, near))
+
+-- values that some pass saw last, each of which was in the lot, have grown from the opening's
+pub seen_grown : {V Part : Type 0} (rule : CallersRule V Part) (opening : List V) (lot : LotView) (passes : List (PassView V)) (values : List V)
+    → All (IsReady rule opening lot) passes → AreSeen values passes → HaveGrown rule opening values
+seen_grown rule opening lot passes values ready seen key u v lay lies =
+    let (p, saw, was) = any_all (λ (p : PassView _). HasSeen p key v) (IsReady rule opening lot) passes (seen key v lies) ready in
+    was.grown key u v lay saw
+
+-- and so have the opening's own
+pub same_grown : {V Part : Type 0} (rule : CallersRule V Part) (opening values : List V) → values ≡ opening → HaveGrown rule opening values
+same_grown rule opening values same key u v lay lies =
+    let there = get_as opening key v (subst (λ xs. slice_get xs key ≡ Some v) same lies) in
+    subst (rule.grows u) (some-injective u v (sym lay ∙ there)) (rule.grows_itself u)
 
 -- what the passes had seen ended in the values
 pub all_end : {V Part : Type 0} (rule : CallersRule V Part) (lot : LotView) (passes : List (PassView V)) (values : List V)

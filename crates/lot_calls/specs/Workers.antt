@@ -1,5 +1,7 @@
 -- Workers: passes were taken from a lot, were worked with and came back, and then the lot was closed.
-use Rattle.std.specs.Prelude.{◌≡◌, ℕ, ◌<◌, List, length, map, slice_index_or}
+use Rattle.std.specs.Prelude.{◌≡◌, ℕ, ◌<◌, List, length, map, slice_get, slice_index_or, Some}
+use mathlib.Core.Option.{some}
+use lib.ListN.{get_elem?}
 use Rattle.std.specs.List.{All, Any}
 use Rattle.lot_words.specs.CallersRule.{CallersRule}
 use Rattle.lot_sync.specs.Lot.{LotView, PassView, OwnsNone, HasShape, rested}
@@ -31,6 +33,10 @@ module _ {V Part : Type 0} (rule : CallersRule V Part) where
   pub record MayLeave (p : PassView V) : Type 0 where
     pub free : OwnsNone p
     pub rests : rule.rests (rested p)
+
+  -- each value has grown from what lay under its key at the opening
+  abbrev pub HaveGrown : List V → List V → Type 0
+  HaveGrown opening values = (key : ℕ) (u v : V) → get_elem? opening key ≡ some u → slice_get values key ≡ Some v → rule.grows u v
 
   -- the values go on from all that the pass had seen, and have its own parts as it saw them
   pub record EndsIn (values : List V) (p : PassView V) : Type 0 where

@@ -5,7 +5,7 @@ ghost use Rattle.lot_sync.specs.Lot.{PassView, rested};
 ghost use Rattle.lot_sync.specs.Opened.{IsNamed};
 ghost use Rattle.lot_sync.specs.Starting.{Starts};
 ghost use Rattle.lot_calls.specs.Finished.{IsReady};
-ghost use Rattle.lot_calls.specs.Workers.{MayLeave};
+ghost use Rattle.lot_calls.specs.Workers.{MayLeave, HaveGrown};
 
 use crate::finishing::finish;
 use lot_sync::{Contention, Lot, LotName, Opened, Pass, Tally};
@@ -42,7 +42,7 @@ pub fn start_with_room<V: Keeps + Send, N: LotName<V> + Send>(
 
 /// Starts the lot, and registers for each of its threads: `start_with_passes::<V, N, T>(rt, alloc, threads, opened)`.
 /// The passes are for workers (`work_together`), and have a list with room for all. Where memory was refused, the
-/// values come back.
+/// values come back, each grown from what was opened with its key.
 pub fn start_with_passes<V: Keeps + Send, N: LotName<V> + Send, T: Wait>(
     rt: &T,
     alloc: Global,
@@ -56,7 +56,8 @@ pub fn start_with_passes<V: Keeps + Send, N: LotName<V> + Send, T: Wait>(
         × (r.0.conds ≡ opened.conds) × (r.0.sems ≡ length opened.permits)) }
     ensures ready { IfOk result (λ r. All (IsReady V.Keeps N.values r.0) r.1.items) }
     ensures all { IfOk result (λ r. (vec_len r.1 ≡ r.0.threads) × (r.0.threads ≤ vec_capacity r.1)) }
-    ensures back { IfErr result (λ values. vec_len values ≡ length opened.values) }
+    ensures back { IfErr result (λ values. (vec_len values ≡ length opened.values)
+        × HaveGrown V.Keeps opened.values values.items) }
 {
     match start_with_room::<V, N>(alloc, threads, opened) {
         Ok((lot, room)) => with_passes(rt, lot, room),
@@ -79,7 +80,8 @@ pub fn start_counting_with_passes<V: Keeps + Send, N: LotName<V> + Send, T: Wait
         × (r.0.conds ≡ opened.conds) × (r.0.sems ≡ length opened.permits)) }
     ensures ready { IfOk result (λ r. All (IsReady V.Keeps N.values r.0) r.1.items) }
     ensures all { IfOk result (λ r. (vec_len r.1 ≡ r.0.threads) × (r.0.threads ≤ vec_capacity r.1)) }
-    ensures back { IfErr result (λ values. vec_len values ≡ length opened.values) }
+    ensures back { IfErr result (λ values. (vec_len values ≡ length opened.values)
+        × HaveGrown V.Keeps opened.values values.items) }
 {
     let Ok(passes) = Vec::with_capacity(alloc, threads) else {
         return Err(opened.close());
@@ -103,7 +105,7 @@ fn with_passes<V: Keeps + Send, N: LotName<V> + Send, C: Tally + Send, T: Wait>(
     ensures lot { IfOk result (λ r. r.0 ≡ lot) }
     ensures ready { IfOk result (λ r. All (IsReady V.Keeps N.values r.0) r.1.items) }
     ensures all { IfOk result (λ r. (vec_len r.1 ≡ r.0.threads) × (r.0.threads ≤ vec_capacity r.1)) }
-    ensures back { IfErr result (λ values. vec_len values ≡ lot.locks) }
+    ensures back { IfErr result (λ values. (vec_len values ≡ lot.locks) × HaveGrown V.Keeps N.values values.items) }
 {
     let (passes, registered) = register_all(rt, &lot, room);
     if registered {

@@ -1,5 +1,5 @@
 -- How a pass stands between two accesses of a lock's word, and what the calls of a lock make of it.
-use Rattle.std.specs.Prelude.{◌≡◌, ◌≢◌, ℕ, ◌<◌, ◌⊎◌, ◌++◌, Bool, true, false, List, [], ◌∷◌, Some}
+use Rattle.std.specs.Prelude.{◌≡◌, ◌≢◌, ℕ, ◌<◌, ◌++◌, Bool, true, false, List, [], ◌∷◌, Some}
 use Rattle.std.specs.List.{count_by}
 use Rattle.lot_events.specs.declared.events.Event.TheVariants.{Free, Mark}
 use Rattle.lot_events.specs.declared.events.Seen.TheVariants.{Bool as Saw, Done}
@@ -10,7 +10,7 @@ use Rattle.lot_words.specs.World.{Holds, HoldsParked}
 use Rattle.lot_words.specs.Values.{IsIn, FoundOk}
 use Rattle.lot_whole.specs.Standing.{MayWant, MayLetGo}
 use Rattle.lot_seeking.specs.declared.seeking.Seeking.{Seeking}
-use Rattle.lot_seeking.specs.Seeking.{IsOnItsWay, SeeksSo}
+use Rattle.lot_seeking.specs.Seeking.{IsAwake, IsWanting, SeeksSo}
 use Rattle.lot_scheme.specs.Standing.{LotStanding, EndsWith, adding, wanting, lined, owning, finding_parked, letting_go}
 use Rattle.lot_scheme.specs.Traces.{IsSeek, GetTrace}
 use Rattle.lot_locks.specs.declared.released.Released.{Released}
@@ -87,16 +87,15 @@ module _ {V : Type 0} (above : ℕ → ℕ → Type 0) where
 
   -- it wants the lock, and is in no line
   abbrev pub IsTryingFor : ℕ → LotStanding V → ℕ → LotStanding V → Type 0
-  IsTryingFor n before l now = IsOnItsWay (MaySeekOf n before l) (IsSeek before.thread l) (λ did. now ≡ adding (wanting before l) did)
+  IsTryingFor n = IsWanting (λ (p : LotStanding V). p.thread) adding wanting (MaySeekOf n) IsSeek
 
   -- it is in no line, and stands as before, or wants the lock by now
   abbrev pub IsAwakeFor : ℕ → LotStanding V → ℕ → LotStanding V → Type 0
-  IsAwakeFor n before l now = IsOnItsWay (MaySeekOf n before l) (IsSeek before.thread l)
-      (λ did. (now ≡ adding before did) ⊎ (now ≡ adding (wanting before l) did))
+  IsAwakeFor n = IsAwake (λ (p : LotStanding V). p.thread) adding wanting (MaySeekOf n) IsSeek
 
   -- it is queued in the line of the lock, which it wants
   abbrev pub IsAsleepFor : ℕ → LotStanding V → ℕ → LotStanding V → Type 0
-  IsAsleepFor n before l now = IsOnItsWay (MaySeekOf n before l) (IsSeek before.thread l) (λ did. now ≡ adding (lined before l) did)
+  IsAsleepFor n = IsWanting (λ (p : LotStanding V). p.thread) adding lined (MaySeekOf n) IsSeek
 
 module _ {V Part : Type 0} (rule : CallersRule V Part) where
   -- the lock was got by such a trace, with the value that was found there

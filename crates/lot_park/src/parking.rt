@@ -111,7 +111,7 @@ fn take_first<R: Root>(
       queue = without_count count key bucket.old.queue;
     } }
 {
-    let _waiting = bucket.len();
+    prove!(bucket.len() <= bucket.room());
     let root = bucket.take_root(key);
     let (taken, more) = bucket.dequeue_count(key, count, out);
     (root, taken, more)

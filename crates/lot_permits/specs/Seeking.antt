@@ -7,7 +7,7 @@ use Rattle.lot_rights.specs.declared.views.Access.{Access}
 use Rattle.lot_rights.specs.declared.views.Access.TheVariants.{Makes, Finds}
 use Rattle.lot_whole.specs.Standing.{MayWantPermit}
 use Rattle.lot_seeking.specs.declared.seeking.Seeking.{Seeking}
-use Rattle.lot_seeking.specs.Seeking.{IsOnItsWay, SeeksSo}
+use Rattle.lot_seeking.specs.Seeking.{IsAwake, IsWanting, SeeksSo}
 use Rattle.lot_scheme.specs.Standing.{LotStanding, EndsWith, adding, seeking, queued, one_permit_more}
 use Rattle.lot_scheme.specs.Traces.{IsPermitSeek, GetPermitTrace, BusyTrace}
 
@@ -36,16 +36,15 @@ module _ {V : Type 0} (above : ℕ → ℕ → Type 0) where
 
   -- it seeks a permit, and is in no line
   abbrev pub IsSeekingFor : ℕ → LotStanding V → ℕ → LotStanding V → Type 0
-  IsSeekingFor first_sem p k q = IsOnItsWay (MaySeekOf first_sem p k) (IsPermitSeek p.thread k) (λ did. q ≡ adding (seeking p k) did)
+  IsSeekingFor first_sem = IsWanting (λ (p : LotStanding V). p.thread) adding seeking (MaySeekOf first_sem) IsPermitSeek
 
   -- it is in no line, and seeks a permit or stands as before
   abbrev pub IsAwakeFor : ℕ → LotStanding V → ℕ → LotStanding V → Type 0
-  IsAwakeFor first_sem p k q = IsOnItsWay (MaySeekOf first_sem p k) (IsPermitSeek p.thread k)
-      (λ did. (q ≡ adding p did) ⊎ (q ≡ adding (seeking p k) did))
+  IsAwakeFor first_sem = IsAwake (λ (p : LotStanding V). p.thread) adding seeking (MaySeekOf first_sem) IsPermitSeek
 
   -- it seeks a permit, and is queued in the semaphore's line
   abbrev pub IsAsleepFor : ℕ → LotStanding V → ℕ → LotStanding V → Type 0
-  IsAsleepFor first_sem p k q = IsOnItsWay (MaySeekOf first_sem p k) (IsPermitSeek p.thread k) (λ did. q ≡ adding (queued p k) did)
+  IsAsleepFor first_sem = IsWanting (λ (p : LotStanding V). p.thread) adding queued (MaySeekOf first_sem) IsPermitSeek
 
   -- by how far it is
   abbrev pub Seeks : ℕ → LotStanding V → ℕ → Seeking → LotStanding V → Type 0

@@ -1,9 +1,10 @@
 -- Rights that come to one seat, the last of a list first, and what is known of them there.
-use Rattle.std.proofs.Common.{◌≡◌, ℕ, List, [], ◌∷◌, ◌++◌, length, map, reverse, Some, sym, ap, ◌∙◌, arith}
-use Rattle.std.specs.List.{All}
+use Rattle.std.proofs.Common.{◌≡◌, ◌<◌, ℕ, List, [], ◌∷◌, ◌++◌, length, map, reverse, Some, sym, ap, subst, ◌∙◌, arith}
+use Rattle.std.specs.List.{All, Any}
 use Rattle.std.proofs.lemmas.List.{append-nil, append_assoc, reverse-append}
 use Rattle.std.proofs.lemmas.List.Elements.{All-nil, All-cons, All-pop}
 use Rattle.lot_rights.specs.Seating.{Each}
+use Rattle.lot_rights.specs.Shown.{PassShown}
 
 module _ {A R : Type 0} (right : A → R) where
   -- the seat took in the right of the last, which is gone from the list
@@ -37,3 +38,9 @@ module _ {R : Type 0} (number : R → ℕ) (F : R → Type 0) where
 -- the last of a list is taken from it
 pub all_popped : {A : Type 0} (P : A → Type 0) (xs ys : List A) (y : A) → xs ≡ ys ++ y ∷ [] → All P xs → All P ys × P y
 all_popped P xs ys y e h = let r = All-pop P xs ys (Some y) e h in (r.0, r.1)
+
+-- the passes of all threads of a table that is shown are those of all its threads
+pub all_shown : {Z P : Type 0} (threads : Z → ℕ) {z shown : Z} → z ≡ shown → (passes : List (PassShown P))
+    → ((t : ℕ) → t < threads shown → Any (λ (p : PassShown P). p.thread ≡ t) passes)
+    → (t : ℕ) → t < threads z → Any (λ (p : PassShown P). p.thread ≡ t) passes
+all_shown {P = P} threads is passes all = subst (λ y. (t : ℕ) → t < threads y → Any (λ (p : PassShown P). p.thread ≡ t) passes) (sym is) all

@@ -16,3 +16,11 @@ module _ {S P R : Type 0} (k : Meaning S P R) (i place : ℕ) (is : place ≡ i)
   pub root_at_place : (f : ℕ → ℕ) (q : RootShown R) (then : ℕ → RootShown R → Type 0)
       → AllowsRoot k i f q then → AllowsRoot k place f q then
   root_at_place f q then a = subst (λ z. AllowsRoot k z f q then) (sym is) a
+
+-- A call's step is allowed at the place that it found, if it is allowed at its word whatever the table's numbers and values
+-- are, where these are as the call asks.
+pub pass_at_word : {S P R Z : Type 0} (k : Z → Meaning S P R) {z shown : Z} → z ≡ shown → (Asks : Z → Type 0) → Asks shown
+    → (i : ℕ) {place : ℕ} → place ≡ i → (f : ℕ → ℕ) (p : PassShown P) (then : ℕ → PassShown P → Type 0)
+    → ((y : Z) → Asks y → AllowsPass (k y) i f p then) → AllowsPass (k z) place f p then
+pass_at_word k {z} shown_is Asks asks i {place} is f p then allows =
+    pass_at_place (k z) i place is f p then (allows z (subst Asks (sym shown_is) asks))

@@ -22,9 +22,9 @@ use Rattle.lot_scheme.proofs.Noted.{noted}
 
 module _ {V : Type 0} where
   -- a call of the words tells this of two passes, and so of how they stand
-  pub told_of : (Told : LotStanding V → LotStanding V → Type 0) (before after : PassShown (LotPassView V)) (p q : LotStanding V)
+  pub told_of : (Told : LotStanding V → LotStanding V → Type 0) (before after : PassShown (LotPassView V)) {p q : LotStanding V}
       → p ≡ standing before → q ≡ standing after → Told (standing before) (standing after) → Told p q
-  told_of Told before after p q is_p is_q told =
+  told_of Told before after {q = q} is_p is_q told =
       subst (λ s. Told s q) (sym is_p) (subst (λ s. Told (standing before) s) (sym is_q) told)
 
   module _ (p r q : PassShown (LotPassView V)) where

@@ -9,10 +9,10 @@ use Rattle.lot_seeking.specs.Seeking.{SeekingLaws, IsUnfinished, IsAwake, IsWant
 module _ {P A : Type 0} (thread : P → ℕ) (adding : P → List A → P) (wants : P → ℕ → P) (allowed : P → ℕ → Type 0)
     (is_seek : ℕ → ℕ → A → Type 0) (gets : P → ℕ → P → Type 0) (adds : Adds thread adding wants allowed is_seek gets) where
   abbrev Awake : P → ℕ → P → Type 0
-  Awake = IsAwake thread adding wants allowed is_seek gets
+  Awake = IsAwake thread adding wants allowed is_seek
 
   abbrev Wanting : P → ℕ → P → Type 0
-  Wanting = IsWanting thread adding wants allowed is_seek gets
+  Wanting = IsWanting thread adding wants allowed is_seek
 
   abbrev Seeks : P → ℕ → Seeking → P → Type 0
   Seeks = SeeksSo thread adding wants allowed is_seek gets

@@ -36,9 +36,9 @@ pub record IsOnItsWay {A : Type 0} (allowed : Type 0) (is_seek : A → Type 0) (
   pub is : stands did
 
 -- who the pass's thread is; how the pass stands after accesses more, and where it wants what lies under a key; when it
--- may; which accesses of which thread get nothing; and how it stands that has got it
+-- may; and which accesses of which thread get nothing
 module _ {P A : Type 0} (thread : P → ℕ) (adding : P → List A → P) (wants : P → ℕ → P) (allowed : P → ℕ → Type 0)
-    (is_seek : ℕ → ℕ → A → Type 0) (gets : P → ℕ → P → Type 0) where
+    (is_seek : ℕ → ℕ → A → Type 0) where
   -- it is in no line, and stands as before, or wants it by now
   abbrev pub IsAwake : P → ℕ → P → Type 0
   IsAwake before key now = IsOnItsWay (allowed before key) (is_seek (thread before) key)
@@ -48,23 +48,25 @@ module _ {P A : Type 0} (thread : P → ℕ) (adding : P → List A → P) (want
   abbrev pub IsWanting : P → ℕ → P → Type 0
   IsWanting before key now = IsOnItsWay (allowed before key) (is_seek (thread before) key) (λ did. now ≡ adding (wants before key) did)
 
-  -- by how far it is
-  abbrev pub SeeksSo : P → ℕ → Seeking → P → Type 0
-  SeeksSo before key Got now = gets before key now
-  SeeksSo before key Waits now = IsAwake before key now
-  SeeksSo before key Parks now = IsWanting before key now
+  -- and how it stands that has got it
+  module _ (gets : P → ℕ → P → Type 0) where
+    -- by how far it is
+    abbrev pub SeeksSo : P → ℕ → Seeking → P → Type 0
+    SeeksSo before key Got now = gets before key now
+    SeeksSo before key Waits now = IsAwake before key now
+    SeeksSo before key Parks now = IsWanting before key now
 
-  -- Accesses add up and change nothing else. Who wants it wants the same and may seek it still; and who has got it from
-  -- there, or after accesses that got nothing, has got it.
-  pub record Adds : Type 0 where
-    pub none : (p : P) → adding p [] ≡ p
-    pub both : (p : P) (xs ys : List A) → adding (adding p xs) ys ≡ adding p (xs ++ ys)
-    pub same : (p : P) (xs : List A) → thread (adding p xs) ≡ thread p
-    pub wants_same : (p : P) (key : ℕ) → thread (wants p key) ≡ thread p
-    pub wants_once : (p : P) (key : ℕ) → wants (wants p key) key ≡ wants p key
-    pub wants_added : (p : P) (key : ℕ) (xs : List A) → wants (adding p xs) key ≡ adding (wants p key) xs
-    pub may_added : (p : P) (key : ℕ) (xs : List A) → allowed p key → allowed (adding p xs) key
-    pub may_again : (p : P) (key : ℕ) → allowed p key → allowed (wants p key) key
-    pub got_same : (p q : P) (key : ℕ) → gets p key q → thread q ≡ thread p
-    pub got_after : (p q : P) (key : ℕ) (xs : List A) → All (is_seek (thread p) key) xs → gets (adding p xs) key q → gets p key q
-    pub got_wanting : (p q : P) (key : ℕ) → gets (wants p key) key q → gets p key q
+    -- Accesses add up and change nothing else. Who wants it wants the same and may seek it still; and who has got it from
+    -- there, or after accesses that got nothing, has got it.
+    pub record Adds : Type 0 where
+      pub none : (p : P) → adding p [] ≡ p
+      pub both : (p : P) (xs ys : List A) → adding (adding p xs) ys ≡ adding p (xs ++ ys)
+      pub same : (p : P) (xs : List A) → thread (adding p xs) ≡ thread p
+      pub wants_same : (p : P) (key : ℕ) → thread (wants p key) ≡ thread p
+      pub wants_once : (p : P) (key : ℕ) → wants (wants p key) key ≡ wants p key
+      pub wants_added : (p : P) (key : ℕ) (xs : List A) → wants (adding p xs) key ≡ adding (wants p key) xs
+      pub may_added : (p : P) (key : ℕ) (xs : List A) → allowed p key → allowed (adding p xs) key
+      pub may_again : (p : P) (key : ℕ) → allowed p key → allowed (wants p key) key
+      pub got_same : (p q : P) (key : ℕ) → gets p key q → thread q ≡ thread p
+      pub got_after : (p q : P) (key : ℕ) (xs : List A) → All (is_seek (thread p) key) xs → gets (adding p xs) key q → gets p key q
+      pub got_wanting : (p q : P) (key : ℕ) → gets (wants p key) key q → gets p key q

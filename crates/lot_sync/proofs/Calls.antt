@@ -118,11 +118,11 @@ module _ {V : Type 0} where
   )
 
 -- the tallies, to which what was taken is added
-pub kept_called : {V : Type 0} (locks own conds : ℕ) (trace : ℕ → List Access → Type 0) (p q : LotStanding V) (c n : ℕ)
-    (called woken now_called now_woken : List ℕ) → own ≡ locks → TookMore trace p c n q → AreKept locks conds (counts_in p) called woken
+pub kept_called : {V : Type 0} {locks own conds : ℕ} {trace : ℕ → List Access → Type 0} {p q : LotStanding V} {c n : ℕ}
+    {called woken now_called now_woken : List ℕ} → own ≡ locks → TookMore trace p c n q → AreKept locks conds (counts_in p) called woken
     → (AreKept own conds (counts_in p) called woken → AreKept own conds (called_more (counts_in p) c n) now_called now_woken)
     → AreKept locks conds (counts_in q) now_called now_woken
-kept_called {V} locks own conds trace p q c n called woken now_called now_woken same took kept counts =
+kept_called {V} {locks} {own} {conds} {trace} {p} {q} {c} {n} {called} {woken} {now_called} {now_woken} same took kept counts =
     subst (λ m. AreKept locks conds m now_called now_woken) (sym (ap counts_in took.is))
     (subst (λ m. AreKept m conds (called_more (counts_in p) c n) now_called now_woken) same
     (counts (subst (λ m. AreKept m conds (counts_in p) called woken) (sym same) kept)))

@@ -7,3 +7,4 @@ pub mod Turns
 pub mod Holdings
 pub mod Starts
 pub mod Closes
+pub mod Naming

@@ -139,21 +139,20 @@ module _ {V : Type 0} (grows : V → V → Type 0) (names : LotNames V) where
       subst (λ n. l < n) rest.of_lot.holds_long (held_near r.own.locks.holds l (owned_held r.own.locks.holds l owns))
 
   -- the accesses that were made are no matter
-  rest_on : (r : LotStanding V) (did : List Access) → IsAtRest grows names r → IsAtRest grows names (adding r did)
-  rest_on r did rest = record {
-    of_lot = record {
-      is_thread = rest.of_lot.is_thread;
-      holds_long = rest.of_lot.holds_long;
-      places_long = rest.of_lot.places_long;
-      seen_long = rest.of_lot.seen_long;
-      called_long = rest.of_lot.called_long;
-      woken_long = rest.of_lot.woken_long;
-      permits_long = rest.of_lot.permits_long;
-      grown = rest.of_lot.grown;
-    };
-    idle = rest.idle;
-    out = rest.out;
+  of_lot_on : (r : LotStanding V) (did : List Access) → IsOfLot grows names r → IsOfLot grows names (adding r did)
+  of_lot_on r did is = record {
+    is_thread = is.is_thread;
+    holds_long = is.holds_long;
+    places_long = is.places_long;
+    seen_long = is.seen_long;
+    called_long = is.called_long;
+    woken_long = is.woken_long;
+    permits_long = is.permits_long;
+    grown = is.grown;
   }
+
+  rest_on : (r : LotStanding V) (did : List Access) → IsAtRest grows names r → IsAtRest grows names (adding r did)
+  rest_on r did rest = record { of_lot = of_lot_on r did rest.of_lot; idle = rest.idle; out = rest.out }
 
   pub rests_on : (p q : LotStanding V) (did : List Access) → q ≡ adding p did → IsAtRest grows names p → IsAtRest grows names q
   rests_on p q did is rest = subst (IsAtRest grows names) (sym is) (rest_on p did rest)
@@ -347,16 +346,7 @@ module _ {V Part : Type 0} (rule : CallersRule V Part) (names : LotNames V) wher
   owner_on : (p : LotStanding V) (l : ℕ) (did : List Access) → IsNewOwner rule.grows names p l
       → IsNewOwner rule.grows names (adding p did) l
   owner_on p l did own = record {
-    of_lot = record {
-      is_thread = own.of_lot.is_thread;
-      holds_long = own.of_lot.holds_long;
-      places_long = own.of_lot.places_long;
-      seen_long = own.of_lot.seen_long;
-      called_long = own.of_lot.called_long;
-      woken_long = own.of_lot.woken_long;
-      permits_long = own.of_lot.permits_long;
-      grown = own.of_lot.grown;
-    };
+    of_lot = of_lot_on rule.grows names p did own.of_lot;
     idle = own.idle;
     holds = own.holds;
     value = own.value;

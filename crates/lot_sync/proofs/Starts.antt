@@ -1,9 +1,9 @@
 -- The rights of an opening, and the values that come back when nobody got a lock.
-use Rattle.std.proofs.Common.{◌≡◌, ℕ, ◌+◌, ◌-◌, ◌<◌, ◌≤◌, false, List, [], ◌∷◌, zero, suc, length, map, get_or, replicate}
+use Rattle.std.proofs.Common.{◌≡◌, ℕ, ◌+◌, ◌-◌, ◌<◌, ◌≤◌, false, List, [], ◌∷◌, zero, suc, length, get_or, replicate}
 use Rattle.std.proofs.Common.{slice_get, slice_index, Some, refl, sym, ap, subst, ◌∙◌, ⊎_elim, arith}
 use Rattle.std.specs.Prelude.{nat_lt, if◌then◌else◌}
 use Rattle.std.proofs.lemmas.Bool.{cases_lt, lt-ltb, le-ltb}
-use Rattle.std.proofs.lemmas.List.{drop-replicate, length-replicate}
+use Rattle.std.proofs.lemmas.List.{length-replicate}
 use mathlib.Core.Option.{some, some-injective}
 use lib.ListN.{get_elem?}
 use Rattle.std.specs.List.{All, Any}
@@ -30,12 +30,9 @@ use Rattle.lot_whole.specs.Shown.{LotWordsShown, lot_of}
 use Rattle.atomic_table.specs.Seated.{TableId}
 use Rattle.lot_scheme.specs.Counts.{IsUnused}
 use Rattle.lot_scheme.specs.Roots.{IsInItsKind, root_view, owes_in}
-use Rattle.lot_scheme.specs.Standing.{LotStanding, standing}
-use Rattle.lot_waits.specs.Counts.{wrap, kept}
-use Rattle.lot_waits.specs.Ledger.{AreZeros}
-use Rattle.lot_waits.specs.declared.tallies.Tallies.{Tallies}
+use Rattle.lot_scheme.specs.Standing.{standing}
 use Rattle.lot_sync.specs.Lot.{LotNames}
-use Rattle.lot_sync.specs.Passes.{IsAtRest, pass_view_shown, AreTallied}
+use Rattle.lot_sync.specs.Passes.{IsAtRest, pass_view_shown}
 use Rattle.lot_sync.specs.Opened.{IsOpened, opened_as}
 use Rattle.lot_sync.specs.Starting.{Starts, IsNewPass}
 use Rattle.lot_sync.proofs.Rests.{owned_held}
@@ -50,25 +47,6 @@ unheld : (m l : ℕ) → ¬ IsHeld (get_or (replicate m NotHeld) l NotHeld)
 unheld zero l is = is
 unheld (suc m) zero is = is
 unheld (suc m) (suc l) is = unheld m l is
-
-wrapped_zeros : (n : ℕ) → map wrap (replicate {A = ℕ} n 0) ≡ replicate {A = ℕ} n 0
-wrapped_zeros zero = refl
-wrapped_zeros (suc n) = ap (λ ns. 0 ∷ ns) (wrapped_zeros n)
-
-kept_zeros : (locks conds : ℕ) → kept locks (replicate {A = ℕ} (locks + conds) 0) ≡ replicate {A = ℕ} conds 0
-kept_zeros locks conds =
-    ap (map wrap) (drop-replicate locks (locks + conds) 0)
-    ∙ (let left : (locks + conds) - locks ≡ conds = omega arith in ap (λ n. map wrap (replicate {A = ℕ} n 0)) left ∙ wrapped_zeros conds)
-
--- zeros are kept of a pass that has counted nothing
-pub kept_of_none : {V : Type 0} (locks conds : ℕ) (r : LotStanding V) (t : Tallies) → r.own.conds.called ≡ replicate (locks + conds) 0
-    → r.own.conds.woken ≡ replicate (locks + conds) 0
-    → AreZeros conds t → AreTallied locks conds r t
-kept_of_none locks conds r t c w zeros = record {
-  wide = (ap length c ∙ length-replicate (locks + conds) 0, ap length w ∙ length-replicate (locks + conds) 0);
-  called_are = zeros.0 ∙ (sym (kept_zeros locks conds) ∙ ap (kept locks) (sym c));
-  woken_are = zeros.1 ∙ (sym (kept_zeros locks conds) ∙ ap (kept locks) (sym w));
-}
 
 -- ---- rights of an opening
 nobody_away : (V : Type 0) (z : LotSize) (xs : List V) (j : Which) → away V j (own_of V (fresh_pass z xs) j) ≡ false

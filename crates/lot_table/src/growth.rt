@@ -216,7 +216,7 @@ fn move_over<W: Wait, R: Root>(
     let mut guards = guards;
     let mut old = old;
     let mut fresh = fresh;
-    let _size = published.size();
+    prove!(published.size() > 0);
     take_out(alloc, guards.as_mut_slice(), &mut old);
     let moved = regrow(old.as_mut_slice(), fresh.as_mut_slice());
     published.fill(rt, fresh, keys);

@@ -13,7 +13,7 @@ use crate::fresh::fresh_buckets;
 use crate::growth::Grower;
 use crate::moves::Moved;
 use crate::served::Served;
-use crate::sizes::{MOST_VERSIONS, TableFault, first_size, grown_size};
+use crate::sizes::{MOST_THREADS, MOST_VERSIONS, TableFault, first_size, grown_size};
 use crate::slot::Slot;
 use crate::version::Version;
 use crate::versions::{Newest, Versions};
@@ -210,7 +210,7 @@ impl<R: Root> Table<R> {
         requires { threads ≤ self.now.threads }
         ensures { IfOk result (λ g. Serves threads g) }
     {
-        let _most = self.threads;
+        prove!(self.threads <= MOST_THREADS);
         let mut growing = Growing::new();
         for _ in rt.forever() {
             let newest = self.versions.newest();

@@ -21,7 +21,7 @@ three a x y z = simp append_assoc
 
 module _ {V : Type 0} where
   -- the flag was seen so
-  abbrev looked : LotStanding V → ℕ → Bool → LotStanding V
+  abbrev pub looked : LotStanding V → ℕ → Bool → LotStanding V
   looked p c saw = adding p (Makes (Look p.thread c) (Saw saw) ∷ [])
 
   -- ---- nobody

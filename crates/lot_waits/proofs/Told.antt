@@ -1,5 +1,5 @@
 -- What is so of a pass after a whole wait, and after a notification: it is idle, and has counted so much.
-use Rattle.std.proofs.Common.{◌≡◌, ℕ, true, List, [], ◌∷◌, inl, inr, refl, sym, ap, subst, ◌∙◌}
+use Rattle.std.proofs.Common.{◌≡◌, ℕ, Bool, true, false, List, [], ◌∷◌, inl, inr, refl, sym, ap, subst, ◌∙◌}
 use Rattle.lot_events.specs.declared.events.Event.TheVariants.{Look, Call}
 use Rattle.lot_events.specs.declared.events.Seen.TheVariants.{Bool as Saw, Count}
 use Rattle.lot_rights.specs.declared.views.Access.{Access}
@@ -13,6 +13,7 @@ use Rattle.lot_locks.specs.declared.released.Released.{Released}
 use Rattle.lot_waits.specs.Counts.{counts_in, one_wait_more}
 use Rattle.lot_waits.specs.Notifying.{FindsNobody, Notifies, NotifiesAll, HasTaken}
 use Rattle.lot_waits.specs.Waiting.{HasWaited, waited}
+use Rattle.lot_waits.proofs.Notified.{looked, finds_nobody}
 use Rattle.lot_waits.proofs.Taken.{none_called}
 
 module _ {V Part : Type 0} (rule : CallersRule V Part) where
@@ -46,10 +47,14 @@ module _ {V : Type 0} where
       up cond = idle.0.up cond
       up sem = idle.0.up sem
 
-  pub told_nobody : (p q : LotStanding V) (c taken : ℕ) → IsIdle p.own → FindsNobody p c taken q → HasTaken p c taken q
+  told_nobody : (p q : LotStanding V) (c taken : ℕ) → IsIdle p.own → FindsNobody p c taken q → HasTaken p c taken q
   told_nobody p q c taken idle (none, is) =
       let acts : List Access = trace_of_nobody p.thread c in
       told p q c taken acts idle (is ∙ ap (λ (r : LotStanding V). adding r acts) (sym (ap (called_more p c) none ∙ none_called p c)))
+
+  -- its look found the flag clear
+  pub told_at_once : (p q : LotStanding V) (c : ℕ) (saw : Bool) → IsIdle p.own → saw ≡ false → q ≡ looked p c saw → HasTaken p c 0 q
+  told_at_once p q c saw idle clear is = told_nobody p q c 0 idle (finds_nobody p q c saw clear is)
 
   pub told_some : (p q : LotStanding V) (c n taken : ℕ) → IsIdle p.own → Notifies p c n taken q → HasTaken p c taken q
   told_some p q c n taken idle (inl nobody) = told_nobody p q c taken idle nobody

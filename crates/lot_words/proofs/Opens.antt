@@ -23,7 +23,7 @@ use Rattle.lot_words.specs.Rule.{sizes_of, part_of, opening_part, fresh_pass, fr
 use Rattle.lot_words.proofs.Machine.{no_aim, no_debt}
 
 -- what the slice's element is, in the table's words
-get_as : {A : Type 0} (xs : List A) (k : ℕ) (x : A) → slice_get xs k ≡ Some x → get_elem? xs k ≡ some x
+pub get_as : {A : Type 0} (xs : List A) (k : ℕ) (x : A) → slice_get xs k ≡ Some x → get_elem? xs k ≡ some x
 get_as [] k x e = absurd (let f : None ≡ Some x = e in cc)
 get_as (y ∷ xs) zero x e = ap some (let f : Some y ≡ Some x = e in cc)
 get_as (y ∷ xs) (suc k) x e = get_as xs k x e

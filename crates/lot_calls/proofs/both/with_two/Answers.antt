@@ -1,9 +1,9 @@
 use Rattle.std.proofs.Common.{sym, ap, subst, ◌∙◌}
 use Rattle.lot_sync.specs.Lot.{PassView}
 use Rattle.lot_sync.proofs.Below.{got_below}
-use Rattle.lot_calls.specs.Visits.{MayBecome, Finds, VisitsBoth}
-use Rattle.lot_calls.proofs.Visiting.{visit_made, finds_got}
-use Rattle.lot_calls.proofs.Nesting.{finds_second, back_second, back_first, visits_both, free_after_both, nested_made}
+use Rattle.lot_calls.specs.Visits.{MayBecome, VisitsBoth}
+use Rattle.lot_calls.proofs.Visiting.{visit_made}
+use Rattle.lot_calls.proofs.Nesting.{finds_both, back_second, back_first, visits_both, free_after_both, nested_made}
 use Rattle.lot_calls.proofs.both.with_two.Goals as goal
 
 pub lock-pass-requires-2-clause-above : goal.lock-pass-requires-2-clause-above
@@ -15,16 +15,12 @@ pub work-outcome-requires : goal.work-outcome-requires
 work-outcome-requires g c =
     let found = c.value_mut.result in
     let other = c.value_mut-2.result in
-    let kept = subst (g.V.Keeps.keeps c.args.first) (sym c.value_mut.ensures.value) c.lock-pass.ensures.gets.kept in
-    let kept' = subst (g.V.Keeps.keeps c.args.second) (sym c.value_mut-2.ensures.value) c.lock-pass-2.ensures.gets.kept in
-    let finds = subst (Finds g.V.Keeps c.args.pass c.args.first) (sym c.value_mut.ensures.value)
-    (finds_got g.V.Keeps c.args.pass c.lock-pass.result.0 c.args.first c.lock-pass.result.1 c.lock-pass.ensures.gets c.args.lot.now
-    c.requires.keys.0 c.lock-pass.ensures.shape) in
-    let finds' = subst (Finds g.V.Keeps c.args.pass c.args.second) (sym c.value_mut-2.ensures.value)
-    (finds_second g.V.Keeps c.args.pass c.lock-pass.result.0 c.lock-pass-2.result.0 c.lock-pass.result.1 c.lock-pass-2.result.1
+    let told =
+    finds_both g.V.Keeps c.args.pass c.lock-pass.result.0 c.lock-pass-2.result.0 c.lock-pass.result.1 c.lock-pass-2.result.1
     c.args.first c.args.second c.requires.keys.2 c.requires.not_owned.0 c.requires.not_owned.1 c.lock-pass.ensures.gets
-    c.lock-pass-2.ensures.gets c.args.lot.now c.requires.keys.1 c.lock-pass.ensures.shape) in
-    c.requires.callable found other kept kept' finds finds'
+    c.lock-pass-2.ensures.gets found.now other.now c.value_mut.ensures.value c.value_mut-2.ensures.value c.args.lot.now
+    c.requires.keys.0 c.requires.keys.1 c.lock-pass.ensures.shape in
+    c.requires.callable found other told.0 told.1 told.2 told.3
 
 pub unlock-pass-requires-clause-back : goal.unlock-pass-requires-clause-back
 unlock-pass-requires-clause-back g c κs within =
@@ -32,16 +28,12 @@ unlock-pass-requires-clause-back g c κs within =
     let other = c.value_mut-2.result in
     let left = record found { now = c.work-outcome.new.arg2 } in
     let other' = record other { now = c.work-outcome.new.arg3 } in
-    let kept = subst (g.V.Keeps.keeps c.args.first) (sym c.value_mut.ensures.value) c.lock-pass.ensures.gets.kept in
-    let kept' = subst (g.V.Keeps.keeps c.args.second) (sym c.value_mut-2.ensures.value) c.lock-pass-2.ensures.gets.kept in
-    let finds = subst (Finds g.V.Keeps c.args.pass c.args.first) (sym c.value_mut.ensures.value)
-    (finds_got g.V.Keeps c.args.pass c.lock-pass.result.0 c.args.first c.lock-pass.result.1 c.lock-pass.ensures.gets c.args.lot.now
-    c.requires.keys.0 c.lock-pass.ensures.shape) in
-    let finds' = subst (Finds g.V.Keeps c.args.pass c.args.second) (sym c.value_mut-2.ensures.value)
-    (finds_second g.V.Keeps c.args.pass c.lock-pass.result.0 c.lock-pass-2.result.0 c.lock-pass.result.1 c.lock-pass-2.result.1
+    let told =
+    finds_both g.V.Keeps c.args.pass c.lock-pass.result.0 c.lock-pass-2.result.0 c.lock-pass.result.1 c.lock-pass-2.result.1
     c.args.first c.args.second c.requires.keys.2 c.requires.not_owned.0 c.requires.not_owned.1 c.lock-pass.ensures.gets
-    c.lock-pass-2.ensures.gets c.args.lot.now c.requires.keys.1 c.lock-pass.ensures.shape) in
-    let may = c.requires.keeps found other c.work-outcome.result left other' kept kept' finds finds' c.work-outcome.ensures in
+    c.lock-pass-2.ensures.gets found.now other.now c.value_mut.ensures.value c.value_mut-2.ensures.value c.args.lot.now
+    c.requires.keys.0 c.requires.keys.1 c.lock-pass.ensures.shape in
+    let may = c.requires.keeps found other c.work-outcome.result left other' told.0 told.1 told.2 told.3 c.work-outcome.ensures in
     back_second g.V.Keeps c.args.pass c.lock-pass.result.0 c.lock-pass-2.result.0 c.lock-pass.result.1 c.lock-pass-2.result.1
     c.args.first c.args.second
     c.requires.keys.2 c.requires.not_owned.0 c.requires.not_owned.1 c.lock-pass.ensures.gets c.lock-pass-2.ensures.gets other'.now
@@ -53,16 +45,12 @@ unlock-pass-requires-2-clause-back g c κs within =
     let other = c.value_mut-2.result in
     let left = record found { now = c.work-outcome.new.arg2 } in
     let other' = record other { now = c.work-outcome.new.arg3 } in
-    let kept = subst (g.V.Keeps.keeps c.args.first) (sym c.value_mut.ensures.value) c.lock-pass.ensures.gets.kept in
-    let kept' = subst (g.V.Keeps.keeps c.args.second) (sym c.value_mut-2.ensures.value) c.lock-pass-2.ensures.gets.kept in
-    let finds = subst (Finds g.V.Keeps c.args.pass c.args.first) (sym c.value_mut.ensures.value)
-    (finds_got g.V.Keeps c.args.pass c.lock-pass.result.0 c.args.first c.lock-pass.result.1 c.lock-pass.ensures.gets c.args.lot.now
-    c.requires.keys.0 c.lock-pass.ensures.shape) in
-    let finds' = subst (Finds g.V.Keeps c.args.pass c.args.second) (sym c.value_mut-2.ensures.value)
-    (finds_second g.V.Keeps c.args.pass c.lock-pass.result.0 c.lock-pass-2.result.0 c.lock-pass.result.1 c.lock-pass-2.result.1
+    let told =
+    finds_both g.V.Keeps c.args.pass c.lock-pass.result.0 c.lock-pass-2.result.0 c.lock-pass.result.1 c.lock-pass-2.result.1
     c.args.first c.args.second c.requires.keys.2 c.requires.not_owned.0 c.requires.not_owned.1 c.lock-pass.ensures.gets
-    c.lock-pass-2.ensures.gets c.args.lot.now c.requires.keys.1 c.lock-pass.ensures.shape) in
-    let may = c.requires.keeps found other c.work-outcome.result left other' kept kept' finds finds' c.work-outcome.ensures in
+    c.lock-pass-2.ensures.gets found.now other.now c.value_mut.ensures.value c.value_mut-2.ensures.value c.args.lot.now
+    c.requires.keys.0 c.requires.keys.1 c.lock-pass.ensures.shape in
+    let may = c.requires.keeps found other c.work-outcome.result left other' told.0 told.1 told.2 told.3 c.work-outcome.ensures in
     back_first g.V.Keeps c.args.pass c.lock-pass.result.0 c.lock-pass-2.result.0 c.lock-pass.result.1 c.lock-pass-2.result.1
     c.args.first c.args.second
     c.requires.keys.2 c.requires.not_owned.0 c.requires.not_owned.1 c.lock-pass.ensures.gets c.lock-pass-2.ensures.gets other'.now
@@ -76,16 +64,12 @@ returns-clause-visits g c =
     let other = c.value_mut-2.result in
     let left = record found { now = c.work-outcome.new.arg2 } in
     let other' = record other { now = c.work-outcome.new.arg3 } in
-    let kept = subst (g.V.Keeps.keeps c.args.first) (sym c.value_mut.ensures.value) c.lock-pass.ensures.gets.kept in
-    let kept' = subst (g.V.Keeps.keeps c.args.second) (sym c.value_mut-2.ensures.value) c.lock-pass-2.ensures.gets.kept in
-    let finds = subst (Finds g.V.Keeps c.args.pass c.args.first) (sym c.value_mut.ensures.value)
-    (finds_got g.V.Keeps c.args.pass c.lock-pass.result.0 c.args.first c.lock-pass.result.1 c.lock-pass.ensures.gets c.args.lot.now
-    c.requires.keys.0 c.lock-pass.ensures.shape) in
-    let finds' = subst (Finds g.V.Keeps c.args.pass c.args.second) (sym c.value_mut-2.ensures.value)
-    (finds_second g.V.Keeps c.args.pass c.lock-pass.result.0 c.lock-pass-2.result.0 c.lock-pass.result.1 c.lock-pass-2.result.1
+    let told =
+    finds_both g.V.Keeps c.args.pass c.lock-pass.result.0 c.lock-pass-2.result.0 c.lock-pass.result.1 c.lock-pass-2.result.1
     c.args.first c.args.second c.requires.keys.2 c.requires.not_owned.0 c.requires.not_owned.1 c.lock-pass.ensures.gets
-    c.lock-pass-2.ensures.gets c.args.lot.now c.requires.keys.1 c.lock-pass.ensures.shape) in
-    let may = c.requires.keeps found other c.work-outcome.result left other' kept kept' finds finds' c.work-outcome.ensures in (
+    c.lock-pass-2.ensures.gets found.now other.now c.value_mut.ensures.value c.value_mut-2.ensures.value c.args.lot.now
+    c.requires.keys.0 c.requires.keys.1 c.lock-pass.ensures.shape in
+    let may = c.requires.keeps found other c.work-outcome.result left other' told.0 told.1 told.2 told.3 c.work-outcome.ensures in (
       found,
       other,
       left,

@@ -12,7 +12,7 @@ queue g c = ap (λ (b : Contents g.row.R.Denot). b.queue) c.take_root-root.ensur
 
 -- no line is longer than the room
 fits : (g : Over) (c : After-take_root-root g) → length (line_of c.args.key c.args.bucket.now.queue) ≤ c.args.bucket.now.room
-fits g c = omega (arith, line_fits c.args.key c.args.bucket.now.queue, c.len-waiting.ensures.count, c.len-waiting.ensures.fits)
+fits g c = omega (arith, line_fits c.args.key c.args.bucket.now.queue, c.len.ensures.count, c.len.ensures.fits)
 
 pub dequeue_count-taken-requires : goal.dequeue_count-taken-requires
 dequeue_count-taken-requires g c =

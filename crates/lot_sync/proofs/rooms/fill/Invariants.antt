@@ -2,19 +2,12 @@ use Rattle.std.proofs.Common.{◌≡◌, ◌+◌, ◌≤◌, vec_len, vec_capaci
 use Rattle.std.specs.List.{All}
 use Rattle.lot_waits.specs.Ledger.{AreZeros}
 use Rattle.lot_sync.specs.Starting.{IsNewPass}
+use Rattle.lot_sync.proofs.Naming.{names_of}
 use Rattle.lot_sync.proofs.rooms.fill.Given as goal
 
 abbrev pub invariant-loop-right : goal.invariant-loop-right
 invariant-loop-right g l = record {
-  fresh : All (IsNewPass g.V.Keeps.grows (record {
-    opening = g.N.Name.opening;
-    first_sem = g.N.LotName.first_sem;
-    permits = g.N.LotName.permits;
-    locks = g.N.LotName.locks;
-    conds = g.N.LotName.conds;
-    threads = g.N.LotName.threads;
-    values = g.N.LotName.values;
-  })) l.passes.items;
+  fresh : All (IsNewPass g.V.Keeps.grows (names_of g.N.Name g.N.LotName)) l.passes.items;
   none : All (λ t. AreZeros g.N.LotName.conds t.value) l.tallies.items;
   both : vec_len l.tallies ≡ vec_len l.passes;
   count : vec_len l.passes + vec_len l.idle ≡ vec_len l.initial.passes;

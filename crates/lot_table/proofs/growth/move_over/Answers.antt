@@ -29,7 +29,7 @@ regrow-moved-requires-after_bounds g c κs within =
               c.args.guards.ok.0,
               c.requires.some,
             );
-        some_new = omega (arith, c.as_mut_slice-3.ensures.len, c.requires.sizes, c.size-size.ensures.count, c.size-size.ensures.some);
+        some_new = omega (arith, c.as_mut_slice-3.ensures.len, c.requires.sizes, c.size.ensures.count, c.size.ensures.some);
         whole = whole g at;
         threads = c.requires.fresh.0;
         fresh = subst (λ (bs : List (Contents g.row.R.Denot)). AreFresh c.args.keys c.requires.fresh.0 bs) (sym fresh) c.requires.fresh.1;

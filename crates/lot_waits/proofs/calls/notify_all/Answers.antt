@@ -1,5 +1,5 @@
-use Rattle.lot_waits.proofs.Notified.{may_sweep, finds_nobody, notified_all}
-use Rattle.lot_waits.proofs.Told.{told_nobody, told_all}
+use Rattle.lot_waits.proofs.Notified.{may_sweep, notified_all}
+use Rattle.lot_waits.proofs.Told.{told_at_once, told_all}
 use Rattle.lot_waits.proofs.calls.notify_all.Goals as goal
 
 pub sweep_line-requires-clause-may : goal.sweep_line-requires-clause-may
@@ -11,8 +11,7 @@ sweep_line-requires-clause-may g c κs within = (
 
 pub returns-then-not-waits-clause-taken : goal.returns-then-not-waits-clause-taken
 returns-then-not-waits-clause-taken g c =
-    told_nobody c.args.pass c.look-pass.result.0 c.args.cond 0 c.requires.idle
-    (finds_nobody c.args.pass c.look-pass.result.0 c.args.cond c.look-pass.result.1 c.if-not-waits.true c.look-pass.ensures)
+    told_at_once c.args.pass c.look-pass.result.0 c.args.cond c.look-pass.result.1 c.requires.idle c.if-not-waits.true c.look-pass.ensures
 
 pub returns-clause-taken : goal.returns-clause-taken
 returns-clause-taken g c =

@@ -4,7 +4,6 @@ use Rattle.lot_scheme.proofs.scheme.LotScheme.free_permit.Goals as goal
 
 pub returns : goal.returns
 returns g c =
-    let became = c.free_permit-pass.result.1 in
-    told_of (λ p q. FreesPermit p c.args.key became q) c.into_pass.result c.free_permit-pass.result.0 c.args.pass c.new.result
+    told_of (λ p q. FreesPermit p c.args.key c.free_permit-pass.result.1 q) c.into_pass.result c.free_permit-pass.result.0
     c.into_pass.ensures.same c.new.ensures
-    (frees c.into_pass.result c.args.key became c.free_permit-pass.result.0 c.free_permit-pass.ensures.entries)
+    (frees c.into_pass.result c.args.key c.free_permit-pass.result.1 c.free_permit-pass.result.0 c.free_permit-pass.ensures.entries)

@@ -4,7 +4,6 @@ use Rattle.lot_scheme.proofs.scheme.LotScheme.mark_permit.Goals as goal
 
 pub returns : goal.returns
 returns g c =
-    let marked = c.mark_permit-pass.result.1 in
-    told_of (λ p q. MarksPermit p c.args.key marked q) c.into_pass.result c.mark_permit-pass.result.0 c.args.pass c.new.result
+    told_of (λ p q. MarksPermit p c.args.key c.mark_permit-pass.result.1 q) c.into_pass.result c.mark_permit-pass.result.0
     c.into_pass.ensures.same c.new.ensures
-    (marks c.into_pass.result c.args.key marked c.mark_permit-pass.result.0 c.mark_permit-pass.ensures.entry)
+    (marks c.into_pass.result c.args.key c.mark_permit-pass.result.1 c.mark_permit-pass.result.0 c.mark_permit-pass.ensures.entry)

@@ -4,7 +4,6 @@ use Rattle.lot_scheme.proofs.scheme.LotScheme.try_take_permit.Goals as goal
 
 pub returns : goal.returns
 returns g c =
-    let became = c.try_take_permit-pass.result.1 in
-    told_of (λ p q. TriesPermit p c.args.key became q) c.into_pass.result c.try_take_permit-pass.result.0 c.args.pass c.new.result
+    told_of (λ p q. TriesPermit p c.args.key c.try_take_permit-pass.result.1 q) c.into_pass.result c.try_take_permit-pass.result.0
     c.into_pass.ensures.same c.new.ensures
-    (tries c.into_pass.result c.args.key became c.try_take_permit-pass.result.0 c.try_take_permit-pass.ensures.entries)
+    (tries c.into_pass.result c.args.key c.try_take_permit-pass.result.1 c.try_take_permit-pass.result.0 c.try_take_permit-pass.ensures.entries)

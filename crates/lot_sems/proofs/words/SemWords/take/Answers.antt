@@ -1,7 +1,6 @@
-use Rattle.std.proofs.Common.{sym, subst}
 use Rattle.lot_rights.specs.Layout.{word_at}
-use Rattle.lot_rights.proofs.Places.{pass_at_place}
-use Rattle.lot_sems.specs.World.{IsAmong, numbers}
+use Rattle.lot_rights.proofs.Places.{pass_at_word}
+use Rattle.lot_sems.specs.World.{IsAmong}
 use Rattle.lot_sems.specs.Rule.{meaning}
 use Rattle.lot_sems.specs.Shown.{SemWordsShown}
 use Rattle.lot_sems.specs.Calls.{MayTake}
@@ -11,10 +10,9 @@ use Rattle.lot_sems.proofs.words.SemWords.take.Goals as goal
 pub load-pass-requires-clause-allows : goal.load-pass-requires-clause-allows
 load-pass-requires-clause-allows c =
     let key = c.args.key in
-    let p = c.args.pass in
-    let size = numbers c.self.inside.words.key in
-    let among = subst (λ (z : SemWordsShown). IsAmong z.size key) (sym c.self.view_is) c.requires.key in
-    pass_at_place (meaning size) (word_at key) _ c.word_of_key.ensures (λ n. n) p (Seeks p key) (seeks size p key among c.requires.may)
+    pass_at_word (λ (z : SemWordsShown). meaning z.size) c.self.view_is (λ z. IsAmong z.size key) c.requires.key (word_at key) c.word_of_key.ensures
+    (λ n. n) c.args.pass (Seeks c.args.pass key)
+    (λ z among. seeks z.size c.args.pass key among c.requires.may)
 
 pub take_from-requires-clause-may : goal.take_from-requires-clause-may
 take_from-requires-clause-may c =

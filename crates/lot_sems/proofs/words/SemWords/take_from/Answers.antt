@@ -2,8 +2,8 @@ use Rattle.std.proofs.Common.{◌==◌, ◌-◌, sym, subst}
 use prog.Atomic.{either}
 use Rattle.lot_events.specs.declared.events.Event.TheVariants.{SemTake}
 use Rattle.lot_rights.specs.Layout.{word_at}
-use Rattle.lot_rights.proofs.Places.{pass_at_place}
-use Rattle.lot_sems.specs.World.{IsAmong, numbers}
+use Rattle.lot_rights.proofs.Places.{pass_at_word}
+use Rattle.lot_sems.specs.World.{IsAmong}
 use Rattle.lot_sems.specs.Rule.{meaning}
 use Rattle.lot_sems.specs.Shown.{SemWordsShown}
 use Rattle.lot_sems.specs.Calls.{one_permit_more, TakesFrom}
@@ -14,12 +14,10 @@ use Rattle.lot_sems.proofs.words.SemWords.take_from.Goals as goal
 pub compare_exchange-pass-requires-clause-allows : goal.compare_exchange-pass-requires-clause-allows
 compare_exchange-pass-requires-clause-allows c =
     let key = c.args.key in
-    let p = c.args.pass in
     let seen = c.args.seen in
-    let size = numbers c.self.inside.words.key in
-    let among = subst (λ (z : SemWordsShown). IsAmong z.size key) (sym c.self.view_is) c.requires.key in
-    pass_at_place (meaning size) (word_at key) _ c.word_of_key.ensures (λ n. either (n == seen) (seen - 2) n) p
-    (Swaps p key (one_permit_more p.own key) (SemTake p.thread key) seen) (swaps size p key among c.requires.may seen c.requires.left)
+    pass_at_word (λ (z : SemWordsShown). meaning z.size) c.self.view_is (λ z. IsAmong z.size key) c.requires.key (word_at key) c.word_of_key.ensures
+    (λ n. either (n == seen) (seen - 2) n) c.args.pass (Swaps c.args.pass key (one_permit_more c.args.pass.own key) (SemTake c.args.pass.thread key) seen)
+    (λ z among. swaps z.size c.args.pass key among c.requires.may seen c.requires.left)
 
 pub returns-clause-entry : goal.returns-clause-entry
 returns-clause-entry c =

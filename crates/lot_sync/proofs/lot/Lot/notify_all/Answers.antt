@@ -13,19 +13,12 @@ at_rest-requires-clause-rest g c κs within =
 
 pub at_rest-requires-clause-kept : goal.at_rest-requires-clause-kept
 at_rest-requires-clause-kept g c κs within =
-    let own = c.self.invariant.own_locks in
-    let locks = c.parking.ensures.keys.0 in
-    let conds = c.parking.ensures.keys.1 in
-    let from = c.requires.cond.0 in
-    let below = c.requires.cond.1 in
-    kept_called g.N.LotName.locks _ g.N.LotName.conds (λ t. NotifyAllTrace t c.args.cond c.notify_all-right.result.1)
-    c.apart-right.result.0 c.notify_all-right.result.0 c.args.cond c.notify_all-right.result.1
-    c.apart-right.result.1.value.called.items c.apart-right.result.1.value.woken.items c.count_taken-tallies.result.value.called.items
-    c.count_taken-tallies.result.value.woken.items own
+    kept_called c.self.invariant.own_locks
     (took_all c.apart-right.result.0 c.notify_all-right.result.0 c.args.cond c.notify_all-right.result.1 c.notify_all-right.ensures.pass)
     c.apart-right.ensures.kept
     (c.count_taken-tallies.ensures g.N.LotName.conds (counts_in c.apart-right.result.0)
-    (omega (arith, own, locks, from), omega (arith, own, locks, below, conds)))
+    (omega (arith, c.self.invariant.own_locks, c.parking.ensures.keys.0, c.requires.cond.0),
+    omega (arith, c.self.invariant.own_locks, c.parking.ensures.keys.0, c.requires.cond.1, c.parking.ensures.keys.1)))
 
 pub returns-clause-counted : goal.returns-clause-counted
 returns-clause-counted g c =

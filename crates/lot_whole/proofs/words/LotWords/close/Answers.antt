@@ -1,8 +1,6 @@
-use Rattle.std.proofs.Common.{◌≡◌, ◌<◌, ℕ, length, sym, subst, arith}
-use Rattle.std.specs.List.{Any}
+use Rattle.std.proofs.Common.{◌≡◌, ◌<◌, length, subst, arith}
 use Rattle.std.specs.Slots.{slots_items}
-use Rattle.lot_rights.specs.Shown.{PassShown}
-use Rattle.lot_whole.specs.declared.views.LotPassView.{LotPassView}
+use Rattle.lot_rights.proofs.Gathers.{all_shown}
 use Rattle.lot_whole.specs.Closing.{IsToldTo}
 use Rattle.lot_whole.specs.Rule.{size_of}
 use Rattle.lot_whole.specs.Shown.{LotWordsShown}
@@ -18,9 +16,7 @@ close-requires-clause-some g c =
 pub take_values-requires-clause-lie : goal.take_values-requires-clause-lie
 take_values-requires-clause-lie g c k near =
     let start = c.self.inside.words.key in
-    let all = subst (λ (z : LotWordsShown g.row.V.Denot). (t : ℕ) → t < z.size.threads
-    → Any (λ (p : PassShown (LotPassView g.row.V.Denot)). p.thread ≡ t) c.args.passes.items) (sym c.self.view_is)
-    c.requires.passes in
+    let all = all_shown (λ (z : LotWordsShown g.row.V.Denot). z.size.threads) c.self.view_is c.args.passes.items c.requires.passes in
     let here : k < start.locks = omega (arith, near, c.close.ensures.full.2, c.self.inside.slots_are) in
     last_lies g.V.Keeps (size_of start) start.values.value.items c.args.passes.items c.args.roots.items
     (slots_items c.close.result.words) (slots_items c.close.result.slots) c.close.ensures.ended.left all c.requires.done k here
@@ -28,9 +24,7 @@ take_values-requires-clause-lie g c k near =
 pub returns-clause-found : goal.returns-clause-found
 returns-clause-found g c =
     let start = c.self.inside.words.key in
-    let all = subst (λ (z : LotWordsShown g.row.V.Denot). (t : ℕ) → t < z.size.threads
-    → Any (λ (p : PassShown (LotPassView g.row.V.Denot)). p.thread ≡ t) c.args.passes.items) (sym c.self.view_is)
-    c.requires.passes in
+    let all = all_shown (λ (z : LotWordsShown g.row.V.Denot). z.size.threads) c.self.view_is c.args.passes.items c.requires.passes in
     let vs = c.take_values.result in
     let len : length vs.items ≡ start.locks =
     omega (arith, vs.ok, c.take_values.ensures.len, c.close.ensures.full.2, c.self.inside.slots_are) in
@@ -41,9 +35,7 @@ returns-clause-found g c =
 pub returns-clause-left : goal.returns-clause-left
 returns-clause-left g c =
     let start = c.self.inside.words.key in
-    let all = subst (λ (z : LotWordsShown g.row.V.Denot). (t : ℕ) → t < z.size.threads
-    → Any (λ (p : PassShown (LotPassView g.row.V.Denot)). p.thread ≡ t) c.args.passes.items) (sym c.self.view_is)
-    c.requires.passes in
+    let all = all_shown (λ (z : LotWordsShown g.row.V.Denot). z.size.threads) c.self.view_is c.args.passes.items c.requires.passes in
     let vs = c.take_values.result in
     let len : length vs.items ≡ start.locks =
     omega (arith, vs.ok, c.take_values.ensures.len, c.close.ensures.full.2, c.self.inside.slots_are) in
@@ -54,18 +46,14 @@ returns-clause-left g c =
 pub returns-clause-balanced : goal.returns-clause-balanced
 returns-clause-balanced g c =
     let start = c.self.inside.words.key in
-    let all = subst (λ (z : LotWordsShown g.row.V.Denot). (t : ℕ) → t < z.size.threads
-    → Any (λ (p : PassShown (LotPassView g.row.V.Denot)). p.thread ≡ t) c.args.passes.items) (sym c.self.view_is)
-    c.requires.passes in
+    let all = all_shown (λ (z : LotWordsShown g.row.V.Denot). z.size.threads) c.self.view_is c.args.passes.items c.requires.passes in
     balanced g.V.Keeps (size_of start) start.values.value.items c.args.passes.items c.args.roots.items
     (slots_items c.close.result.words) (slots_items c.close.result.slots) c.close.ensures.ended.left all c.requires.done
 
 pub returns-clause-history : goal.returns-clause-history
 returns-clause-history g c =
     let start = c.self.inside.words.key in
-    let all = subst (λ (z : LotWordsShown g.row.V.Denot). (t : ℕ) → t < z.size.threads
-    → Any (λ (p : PassShown (LotPassView g.row.V.Denot)). p.thread ≡ t) c.args.passes.items) (sym c.self.view_is)
-    c.requires.passes in
+    let all = all_shown (λ (z : LotWordsShown g.row.V.Denot). z.size.threads) c.self.view_is c.args.passes.items c.requires.passes in
     subst (λ (z : LotWordsShown g.row.V.Denot). IsToldTo z.size c.args.passes.items c.args.roots.items) c.self.view_is
     (told_to g.V.Keeps (size_of start) start.values.value.items c.args.passes.items c.args.roots.items
     (slots_items c.close.result.words) (slots_items c.close.result.slots) c.close.ensures.ended all)

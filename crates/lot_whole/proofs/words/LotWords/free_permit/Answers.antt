@@ -1,13 +1,12 @@
-use Rattle.std.proofs.Common.{◌==◌, ◌+◌, ◌%◌, ◌^◌, sym, subst, inl, arith}
+use Rattle.std.proofs.Common.{◌==◌, ◌+◌, ◌%◌, ◌^◌, inl, arith}
 use Rattle.std.proofs.lemmas.Nat.{and_mask}
 use prog.Atomic.{either}
 use Rattle.lot_events.specs.declared.events.Event.TheVariants.{SemFree}
 use Rattle.lot_sems.specs.Calls.{one_permit_less, IsUnmarked}
 use Rattle.lot_rights.specs.Layout.{word_at}
-use Rattle.lot_rights.proofs.Places.{pass_at_place}
+use Rattle.lot_rights.proofs.Places.{pass_at_word}
 use Rattle.lot_whole.specs.Family.{sem, IsKeyIn}
-use Rattle.lot_whole.specs.Rule.{size_of, meaning}
-use Rattle.lot_whole.specs.Shown.{LotWordsShown}
+use Rattle.lot_whole.specs.Shown.{lot_of}
 use Rattle.lot_whole.specs.Standing.{MayGive}
 use Rattle.lot_whole.specs.Calls.{FindsOf}
 use Rattle.lot_whole.proofs.Seekers.{Swaps, looks, frees, after_look, freed}
@@ -15,26 +14,22 @@ use Rattle.lot_whole.proofs.words.LotWords.free_permit.Goals as goal
 
 pub load-pass-requires-clause-allows : goal.load-pass-requires-clause-allows
 load-pass-requires-clause-allows g c =
-    let start = c.self.inside.words.key in
     let key = c.args.key in
-    let p = c.args.pass in
-    let among = subst (λ (z : LotWordsShown g.row.V.Denot). IsKeyIn z.size sem key) (sym c.self.view_is) c.requires.key in
-    pass_at_place (meaning g.V.Keeps start) (word_at key) _ c.word_of_key-word.ensures (λ n. n) p (FindsOf p key)
-    (looks g.V.Keeps (size_of start) start.values.value.items p key among)
+    pass_at_word (lot_of g.V.Keeps) c.self.view_is (λ z. IsKeyIn z.size sem key) c.requires.key (word_at key) c.word_of_key-word.ensures
+    (λ n. n) c.args.pass (FindsOf c.args.pass key)
+    (λ z. looks g.V.Keeps z.size z.values c.args.pass key)
 
 pub compare_exchange-pass-requires-clause-allows : goal.compare_exchange-pass-requires-clause-allows
 compare_exchange-pass-requires-clause-allows g c =
-    let start = c.self.inside.words.key in
     let key = c.args.key in
     let p = c.args.pass in
     let r = c.load-pass.result.0 in
     let seen = c.load-pass.result.1 in
-    let among = subst (λ (z : LotWordsShown g.row.V.Denot). IsKeyIn z.size sem key) (sym c.self.view_is) c.requires.key in
     let may = after_look p r key seen c.load-pass.ensures.told (λ own. MayGive own key) c.requires.may in
     let clear : IsUnmarked seen = omega (arith, and_mask seen 1, c.if-seen-ne0.false) in
-    pass_at_place (meaning g.V.Keeps start) (word_at key) _ c.word_of_key-word.ensures (λ n. either (n == seen) ((seen + 2) % 2 ^ 64) n) r
-    (Swaps r key (one_permit_less r.own.sems key) (SemFree r.thread key) seen)
-    (frees g.V.Keeps (size_of start) start.values.value.items r key among may seen clear)
+    pass_at_word (lot_of g.V.Keeps) c.self.view_is (λ z. IsKeyIn z.size sem key) c.requires.key (word_at key) c.word_of_key-word.ensures
+    (λ n. either (n == seen) ((seen + 2) % 2 ^ 64) n) r (Swaps r key (one_permit_less r.own.sems key) (SemFree r.thread key) seen)
+    (λ z among. frees g.V.Keeps z.size z.values r key among may seen clear)
 
 pub returns-then-seen-ne0-clause-entries : goal.returns-then-seen-ne0-clause-entries
 returns-then-seen-ne0-clause-entries g c =

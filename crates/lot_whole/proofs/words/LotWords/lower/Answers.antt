@@ -1,20 +1,16 @@
-use Rattle.std.proofs.Common.{sym, subst}
 use Rattle.lot_rights.specs.Layout.{word_at}
-use Rattle.lot_rights.proofs.Places.{pass_at_place}
+use Rattle.lot_rights.proofs.Places.{pass_at_word}
 use Rattle.lot_whole.specs.Family.{cond, IsKeyIn}
-use Rattle.lot_whole.specs.Rule.{size_of, meaning}
-use Rattle.lot_whole.specs.Shown.{LotWordsShown}
+use Rattle.lot_whole.specs.Shown.{lot_of}
 use Rattle.lot_whole.proofs.Carries.{Lowers, lowers}
 use Rattle.lot_whole.proofs.words.LotWords.lower.Goals as goal
 
 pub store-requires-clause-allows : goal.store-requires-clause-allows
 store-requires-clause-allows g c =
-    let start = c.self.inside.words.key in
     let key = c.args.key in
-    let p = c.args.pass in
-    let here = subst (λ (z : LotWordsShown g.row.V.Denot). IsKeyIn z.size cond key) (sym c.self.view_is) c.requires.key in
-    pass_at_place (meaning g.V.Keeps start) (word_at key) _ c.word_of_key.ensures (λ _. 0) p (λ _. Lowers p key)
-    (lowers g.V.Keeps (size_of start) start.values.value.items p key here c.requires.idle)
+    pass_at_word (lot_of g.V.Keeps) c.self.view_is (λ z. IsKeyIn z.size cond key) c.requires.key (word_at key) c.word_of_key.ensures
+    (λ _. 0) c.args.pass (λ _. Lowers c.args.pass key)
+    (λ z here. lowers g.V.Keeps z.size z.values c.args.pass key here c.requires.idle)
 
 pub returns-clause-event : goal.returns-clause-event
 returns-clause-event g c = c.store.ensures.told

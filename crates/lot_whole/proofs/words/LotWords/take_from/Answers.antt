@@ -3,10 +3,9 @@ use prog.Atomic.{either}
 use Rattle.lot_events.specs.declared.events.Event.TheVariants.{SemTake}
 use Rattle.lot_sems.specs.Calls.{one_permit_more}
 use Rattle.lot_rights.specs.Layout.{word_at}
-use Rattle.lot_rights.proofs.Places.{pass_at_place}
+use Rattle.lot_rights.proofs.Places.{pass_at_word}
 use Rattle.lot_whole.specs.Family.{sem, IsKeyIn}
-use Rattle.lot_whole.specs.Rule.{size_of, meaning}
-use Rattle.lot_whole.specs.Shown.{LotWordsShown}
+use Rattle.lot_whole.specs.Shown.{lot_of}
 use Rattle.lot_whole.specs.Calls.{TakesFrom}
 use Rattle.lot_whole.proofs.Seekers.{Swaps, swaps, swapped, unswapped}
 use Rattle.lot_whole.proofs.words.LotWords.take_from.Goals.{then-found-seen, else-found-seen}
@@ -14,14 +13,11 @@ use Rattle.lot_whole.proofs.words.LotWords.take_from.Goals as goal
 
 pub compare_exchange-pass-requires-clause-allows : goal.compare_exchange-pass-requires-clause-allows
 compare_exchange-pass-requires-clause-allows g c =
-    let start = c.self.inside.words.key in
     let key = c.args.key in
-    let p = c.args.pass in
     let seen = c.args.seen in
-    let among = subst (λ (z : LotWordsShown g.row.V.Denot). IsKeyIn z.size sem key) (sym c.self.view_is) c.requires.key in
-    pass_at_place (meaning g.V.Keeps start) (word_at key) _ c.word_of_key.ensures (λ n. either (n == seen) (seen - 2) n) p
-    (Swaps p key (one_permit_more p.own.sems key) (SemTake p.thread key) seen)
-    (swaps g.V.Keeps (size_of start) start.values.value.items p key among c.requires.may seen c.requires.left)
+    pass_at_word (lot_of g.V.Keeps) c.self.view_is (λ z. IsKeyIn z.size sem key) c.requires.key (word_at key) c.word_of_key.ensures
+    (λ n. either (n == seen) (seen - 2) n) c.args.pass (Swaps c.args.pass key (one_permit_more c.args.pass.own.sems key) (SemTake c.args.pass.thread key) seen)
+    (λ z among. swaps g.V.Keeps z.size z.values c.args.pass key among c.requires.may seen c.requires.left)
 
 pub returns-clause-entry : goal.returns-clause-entry
 returns-clause-entry g c =

@@ -1,19 +1,16 @@
-use Rattle.std.proofs.Common.{bit_or, sym, subst, ◌<◌}
+use Rattle.std.proofs.Common.{bit_or, ◌<◌}
 use Rattle.lot_rights.specs.Layout.{word_at}
-use Rattle.lot_rights.proofs.Places.{pass_at_place}
-use Rattle.lot_whole.specs.Rule.{size_of, meaning}
-use Rattle.lot_whole.specs.Shown.{LotWordsShown}
+use Rattle.lot_rights.proofs.Places.{pass_at_word}
+use Rattle.lot_whole.specs.Shown.{lot_of}
 use Rattle.lot_whole.proofs.Carries.{Tries, tries}
 use Rattle.lot_whole.proofs.words.LotWords.try_take.Goals as goal
 
 pub fetch_or-pass-requires-clause-allows : goal.fetch_or-pass-requires-clause-allows
 fetch_or-pass-requires-clause-allows g c =
-    let start = c.self.inside.words.key in
     let key = c.args.key in
-    let p = c.args.pass in
-    let here = subst (λ (z : LotWordsShown g.row.V.Denot). key < z.size.locks) (sym c.self.view_is) c.requires.key in
-    pass_at_place (meaning g.V.Keeps start) (word_at key) _ c.word_of_key.ensures (λ n. bit_or n 1) p (Tries g.V.Keeps p key)
-    (tries g.V.Keeps (size_of start) start.values.value.items p key here c.requires.idle)
+    pass_at_word (lot_of g.V.Keeps) c.self.view_is (λ z. key < z.size.locks) c.requires.key (word_at key) c.word_of_key.ensures
+    (λ n. bit_or n 1) c.args.pass (Tries g.V.Keeps c.args.pass key)
+    (λ z here. tries g.V.Keeps z.size z.values c.args.pass key here c.requires.idle)
 
 pub returns-clause-event : goal.returns-clause-event
 returns-clause-event g c = c.fetch_or-pass.ensures.told

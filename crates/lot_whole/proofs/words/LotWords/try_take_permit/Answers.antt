@@ -1,9 +1,7 @@
-use Rattle.std.proofs.Common.{sym, subst}
 use Rattle.lot_rights.specs.Layout.{word_at}
-use Rattle.lot_rights.proofs.Places.{pass_at_place}
+use Rattle.lot_rights.proofs.Places.{pass_at_word}
 use Rattle.lot_whole.specs.Family.{sem, IsKeyIn}
-use Rattle.lot_whole.specs.Rule.{size_of, meaning}
-use Rattle.lot_whole.specs.Shown.{LotWordsShown}
+use Rattle.lot_whole.specs.Shown.{lot_of}
 use Rattle.lot_whole.specs.Standing.{MayTakePermit}
 use Rattle.lot_whole.specs.Calls.{FindsOf}
 use Rattle.lot_whole.proofs.Seekers.{looks, after_look, idle_takes, tried}
@@ -11,12 +9,10 @@ use Rattle.lot_whole.proofs.words.LotWords.try_take_permit.Goals as goal
 
 pub load-pass-requires-clause-allows : goal.load-pass-requires-clause-allows
 load-pass-requires-clause-allows g c =
-    let start = c.self.inside.words.key in
     let key = c.args.key in
-    let p = c.args.pass in
-    let among = subst (λ (z : LotWordsShown g.row.V.Denot). IsKeyIn z.size sem key) (sym c.self.view_is) c.requires.key in
-    pass_at_place (meaning g.V.Keeps start) (word_at key) _ c.word_of_key.ensures (λ n. n) p (FindsOf p key)
-    (looks g.V.Keeps (size_of start) start.values.value.items p key among)
+    pass_at_word (lot_of g.V.Keeps) c.self.view_is (λ z. IsKeyIn z.size sem key) c.requires.key (word_at key) c.word_of_key.ensures
+    (λ n. n) c.args.pass (FindsOf c.args.pass key)
+    (λ z. looks g.V.Keeps z.size z.values c.args.pass key)
 
 pub take_from-requires-clause-may : goal.take_from-requires-clause-may
 take_from-requires-clause-may g c =

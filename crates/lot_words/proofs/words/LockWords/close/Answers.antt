@@ -1,8 +1,6 @@
-use Rattle.std.proofs.Common.{◌≡◌, ◌<◌, ℕ, length, sym, subst, arith}
-use Rattle.std.specs.List.{Any}
+use Rattle.std.proofs.Common.{◌≡◌, ◌<◌, length, subst, arith}
 use Rattle.std.specs.Slots.{slots_items}
-use Rattle.lot_rights.specs.Shown.{PassShown}
-use Rattle.lot_words.specs.declared.views.LockPassView.{LockPassView}
+use Rattle.lot_rights.proofs.Gathers.{all_shown}
 use Rattle.lot_words.specs.Closing.{IsToldTo}
 use Rattle.lot_words.specs.Shown.{LockWordsShown}
 use Rattle.lot_words.proofs.Closes.{told_to, last_lies, last_found, last_seen}
@@ -16,20 +14,14 @@ close-requires-clause-some g c =
 
 pub take_values-requires-clause-lie : goal.take_values-requires-clause-lie
 take_values-requires-clause-lie g c k near =
-    let all =
-    subst (λ (z : LockWordsShown g.row.V.Denot). (t : ℕ) → t < z.size.threads
-    → Any (λ (p : PassShown (LockPassView g.row.V.Denot)). p.thread ≡ t) c.args.passes.items) (sym c.self.view_is)
-    c.requires.passes in
+    let all = all_shown (λ (z : LockWordsShown g.row.V.Denot). z.size.threads) c.self.view_is c.args.passes.items c.requires.passes in
     let here : k < c.self.inside.words.key.size.locks = omega (arith, near, c.close.ensures.full.2, c.self.inside.slots_are) in
     last_lies g.V.Keeps c.self.inside.words.key.size c.self.inside.words.key.values.value.items c.args.passes.items c.args.roots.items
     (slots_items c.close.result.words) (slots_items c.close.result.slots) c.close.ensures.ended.left c.requires.idle all k here
 
 pub returns-clause-found : goal.returns-clause-found
 returns-clause-found g c =
-    let all =
-    subst (λ (z : LockWordsShown g.row.V.Denot). (t : ℕ) → t < z.size.threads
-    → Any (λ (p : PassShown (LockPassView g.row.V.Denot)). p.thread ≡ t) c.args.passes.items) (sym c.self.view_is)
-    c.requires.passes in
+    let all = all_shown (λ (z : LockWordsShown g.row.V.Denot). z.size.threads) c.self.view_is c.args.passes.items c.requires.passes in
     let vs = c.take_values.result in
     let len : length vs.items ≡ c.self.inside.words.key.size.locks =
     omega (arith, vs.ok, c.take_values.ensures.len, c.close.ensures.full.2, c.self.inside.slots_are) in
@@ -39,10 +31,7 @@ returns-clause-found g c =
 
 pub returns-clause-left : goal.returns-clause-left
 returns-clause-left g c =
-    let all =
-    subst (λ (z : LockWordsShown g.row.V.Denot). (t : ℕ) → t < z.size.threads
-    → Any (λ (p : PassShown (LockPassView g.row.V.Denot)). p.thread ≡ t) c.args.passes.items) (sym c.self.view_is)
-    c.requires.passes in
+    let all = all_shown (λ (z : LockWordsShown g.row.V.Denot). z.size.threads) c.self.view_is c.args.passes.items c.requires.passes in
     let vs = c.take_values.result in
     let len : length vs.items ≡ c.self.inside.words.key.size.locks =
     omega (arith, vs.ok, c.take_values.ensures.len, c.close.ensures.full.2, c.self.inside.slots_are) in

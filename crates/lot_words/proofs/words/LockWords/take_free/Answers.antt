@@ -1,21 +1,17 @@
-use Rattle.std.proofs.Common.{◌==◌, sym, subst, ◌<◌}
+use Rattle.std.proofs.Common.{◌==◌, subst, ◌<◌}
 use prog.Atomic.{either}
 use Rattle.lot_rights.specs.Layout.{word_at}
-use Rattle.lot_rights.proofs.Places.{pass_at_place}
-use Rattle.lot_words.specs.Rule.{meaning}
-use Rattle.lot_words.specs.Shown.{LockWordsShown}
+use Rattle.lot_rights.proofs.Places.{pass_at_word}
+use Rattle.lot_words.specs.Shown.{meaning_of}
 use Rattle.lot_words.proofs.Turns.{TakesFree, takes_free, missed_free}
 use Rattle.lot_words.proofs.words.LockWords.take_free.Goals as goal
 
 pub compare_exchange-requires-clause-allows : goal.compare_exchange-requires-clause-allows
 compare_exchange-requires-clause-allows g c =
-    let start = c.self.inside.words.key in
     let key = c.args.key in
-    let p = c.args.pass in
-    let here = subst (λ (z : LockWordsShown g.row.V.Denot). key < z.size.locks) (sym c.self.view_is) c.requires.key in
-    pass_at_place (meaning g.V.Keeps start.size start.values.value.items) (word_at key) _ c.word_of_key.ensures
-    (λ n. either (n == 0) 1 n) p (TakesFree g.V.Keeps p key)
-    (takes_free g.V.Keeps start.size start.values.value.items p key here c.requires.calm.0 c.requires.calm.1)
+    pass_at_word (meaning_of g.V.Keeps) c.self.view_is (λ z. key < z.size.locks) c.requires.key (word_at key) c.word_of_key.ensures
+    (λ n. either (n == 0) 1 n) c.args.pass (TakesFree g.V.Keeps c.args.pass key)
+    (λ z here. takes_free g.V.Keeps z.size z.values c.args.pass key here c.requires.calm.0 c.requires.calm.1)
 
 pub returns-clause-got : goal.returns-clause-got
 returns-clause-got g c is_free =
