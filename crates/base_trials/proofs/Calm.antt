@@ -79,7 +79,7 @@ module _ {V : Type 0} where
   }
 
   -- ---- what is left of it
-  there_of : (t l : ℕ) (p : LotStanding V) → IsFor t l p → IsThere t p
+  there_of : (t l : ℕ) (p : LotStanding V) → IsFor t l p → IsThere t p.thread p.own
   there_of t l p (inl calm) = calm.there
   there_of t l p (inr wants) = wants.there
 
@@ -87,17 +87,24 @@ module _ {V : Type 0} where
   none_of t l p (inl calm) = calm.none
   none_of t l p (inr wants) = wants.none
 
+  -- it is there still: it is up and stands at no condition, and is queued, sweeps and seeks as before
+  there_on : {t u : ℕ} {own now : LotPassView V} → IsThere t u own → IsUp now → now.conds.out ≡ own.conds.out
+      → now.conds.sweeps ≡ own.conds.sweeps → now.sems.seeks ≡ own.sems.seeks → now.stand ≡ Idle
+      → IsThere t u now
+  there_on there up out sweeps seeks stand = record {
+    thread = there.thread;
+    up = up;
+    out = out ∙ there.out;
+    sweeps = sweeps ∙ there.sweeps;
+    seeks = seeks ∙ there.seeks;
+    stand = stand;
+  }
+
   -- it wants the lock now
   pub wanted : (t l : ℕ) (p q : LotStanding V) (did : List Access) → IsFor t l p → q ≡ adding (wanting p l) did → Wants t l q
   wanted t l p q did before is = subst (Wants t l) (sym is) (record {
-    there = record {
-      thread = (there_of t l p before).thread;
-      up = up_then p.own (lock_wanting p.own.locks l) Idle refl (there_of t l p before).up;
-      out = (there_of t l p before).out;
-      sweeps = (there_of t l p before).sweeps;
-      seeks = (there_of t l p before).seeks;
-      stand = refl;
-    };
+    there = (let there = there_of t l p before in
+        there_on there (up_then p.own (lock_wanting p.own.locks l) Idle refl there.up) refl refl refl refl);
     aim = refl;
     none = none_of t l p before;
   })
@@ -107,30 +114,13 @@ module _ {V : Type 0} where
 
   -- it made these accesses more
   pub wants_on : (t l : ℕ) (p q : LotStanding V) (did : List Access) → Wants t l p → q ≡ adding p did → Wants t l q
-  wants_on t l p q did wants is = subst (Wants t l) (sym is) (record {
-    there = record {
-      thread = wants.there.thread;
-      up = wants.there.up;
-      out = wants.there.out;
-      sweeps = wants.there.sweeps;
-      seeks = wants.there.seeks;
-      stand = wants.there.stand;
-    };
-    aim = wants.aim;
-    none = wants.none;
-  })
+  wants_on t l p q did wants is = subst (Wants t l) (sym is) (record { there = wants.there; aim = wants.aim; none = wants.none })
 
   -- it let the lock go
   pub went : (t l : ℕ) (became : Released) (p q : LotStanding V) → HasIt t l p → LetsGo p l became q → IsCalm t q
   went t l became p q has gone = subst (IsCalm t) (sym gone.is) (record {
-    there = record {
-      thread = has.there.thread;
-      up = up_then p.own (letting_go p.own.locks l gone.value) (rises p.own.stand) refl has.there.up;
-      out = has.there.out;
-      sweeps = has.there.sweeps;
-      seeks = has.there.seeks;
-      stand = ap rises has.there.stand;
-    };
+    there = there_on has.there (up_then p.own (letting_go p.own.locks l gone.value) (rises p.own.stand) refl has.there.up) refl refl refl
+        (ap rises has.there.stand);
     aim = has.aim;
     none = λ k held. dite (ℕ_discrete k l)
         (λ e. unheld_here p.own.locks.holds l (held_near p.own.locks.holds l has.holds)
@@ -146,31 +136,13 @@ module _ {V : Type 0} where
   -- it took so many sleepers from a condition's line, or looked
   pub took_calm : (t c n : ℕ) (p q : LotStanding V) (did : List Access) → IsCalm t p → q ≡ adding (stand_called_more p c n) did → IsCalm t q
   took_calm t c n p q did calm is = subst (IsCalm t) (sym is) (record {
-    there = record {
-      thread = calm.there.thread;
-      up = called_up t c n p calm;
-      out = calm.there.out;
-      sweeps = calm.there.sweeps;
-      seeks = calm.there.seeks;
-      stand = calm.there.stand;
-    };
+    there = there_on calm.there (called_up t c n p calm) refl refl refl calm.there.stand;
     aim = calm.aim;
     none = calm.none;
   })
 
   pub looked_calm : (t : ℕ) (p q : LotStanding V) (did : List Access) → IsCalm t p → q ≡ adding p did → IsCalm t q
-  looked_calm t p q did calm is = subst (IsCalm t) (sym is) (record {
-    there = record {
-      thread = calm.there.thread;
-      up = calm.there.up;
-      out = calm.there.out;
-      sweeps = calm.there.sweeps;
-      seeks = calm.there.seeks;
-      stand = calm.there.stand;
-    };
-    aim = calm.aim;
-    none = calm.none;
-  })
+  looked_calm t p q did calm is = subst (IsCalm t) (sym is) (record { there = calm.there; aim = calm.aim; none = calm.none })
 
   -- it lowered a condition's flag, and may sweep it; and it swept it
   pub lowered_may : (t c : ℕ) (p q : LotStanding V) (did : List Access) → IsCalm t p → q ≡ adding (setting_out p c) did → MaySweep q.own c
@@ -225,14 +197,8 @@ module _ {V Part : Type 0} (rule : CallersRule V Part) where
   got_so t l p q x did before found is =
       let owns = owns_owning p.own.locks l x found.tells in
       subst (HasIt t l) (sym is) (record {
-        there = record {
-          thread = (there_of t l p before).thread;
-          up = up_then p.own (lock_owning p.own.locks l x) Idle refl (there_of t l p before).up;
-          out = (there_of t l p before).out;
-          sweeps = (there_of t l p before).sweeps;
-          seeks = (there_of t l p before).seeks;
-          stand = refl;
-        };
+        there = (let there = there_of t l p before in
+            there_on there (up_then p.own (lock_owning p.own.locks l x) Idle refl there.up) refl refl refl refl);
         aim = refl;
         holds = owns.holds;
         lies = (x, owns.lies);

@@ -1,4 +1,4 @@
--- What is so of each right that an opening answered.
+-- What is so of the rights that an opening answered, of each that was taken from them, and of those that are back.
 use Rattle.std.proofs.Common.{◌≡◌, ℕ, ◌<◌, List, [], ◌∷◌, ◌++◌, length, get_or, refl, sym, subst, arith}
 use Rattle.std.specs.List.{All}
 use Rattle.std.proofs.lemmas.List.Elements.{All-push}
@@ -6,13 +6,38 @@ use Rattle.std.proofs.lemmas.Option.{get_or_from_slice_get}
 use Rattle.atomic_table.specs.Seated.{TableId}
 use Rattle.lot_core.proofs.Rows.{get_or_replicate}
 use Rattle.lot_rights.specs.Shown.{PassShown}
-use Rattle.lot_rights.proofs.Dealt.{Dealt, AllBack}
+use Rattle.lot_rights.proofs.Dealt.{Dealt, AllBack, dealt_last, none_back, one_back}
 use Rattle.lot_words.specs.declared.views.Hold.TheVariants.{NotHeld}
 use Rattle.lot_words.specs.declared.views.LockPassView.{LockPassView}
 use Rattle.lot_words.specs.World.{IsHeld}
 use Rattle.lot_words.specs.Closing.{HoldsNone}
 use Rattle.lot_words.specs.Shown.{pass_at}
 use Rattle.base_trials.specs.LockSchedules.{HasNothing}
+
+-- two rights, or three, were taken from the last on: each is what the opening made of its number
+module _ {A : Type 0} (right : ℕ → A) (Fresh : ℕ → A → Type 0) (fresh : (k : ℕ) (x : A) → x ≡ right k → Fresh k x) where
+  pub two_taken : (xs ys left : List A) (second first : A) → xs ≡ ys ++ second ∷ [] → ys ≡ left ++ first ∷ [] → Dealt right 2 xs
+      → Fresh 0 first × Fresh 1 second
+  two_taken xs ys left second first a b dealt =
+      let last = dealt_last right 1 xs ys second a dealt in
+      (fresh 0 first (dealt_last right 0 ys left first b last.1).0, fresh 1 second last.0)
+
+  pub three_taken : (xs ys zs left : List A) (third second first : A) → xs ≡ ys ++ third ∷ [] → ys ≡ zs ++ second ∷ []
+      → zs ≡ left ++ first ∷ [] → Dealt right 3 xs
+      → Fresh 0 first × Fresh 1 second × Fresh 2 third
+  three_taken xs ys zs left third second first a b c dealt =
+      let last = dealt_last right 2 xs ys third a dealt in
+      let others = two_taken ys zs left second first b c last.1 in
+      (others.0, others.1, fresh 2 third last.0)
+
+-- and were given back in order
+module _ {A : Type 0} (number : A → ℕ) (none xs ys : List A) (first second : A) (a : xs ≡ none ++ first ∷ [])
+    (b : ys ≡ xs ++ second ∷ []) (is_first : number first ≡ 0) (is_second : number second ≡ 1) where
+  pub two_back : AllBack number 2 ys
+  two_back = one_back number 1 xs ys second b is_second (one_back number 0 none xs first a is_first (none_back number none))
+
+  pub three_back : (zs : List A) (third : A) → zs ≡ ys ++ third ∷ [] → number third ≡ 2 → AllBack number 3 zs
+  three_back zs third c is_third = one_back number 2 ys zs third c is_third two_back
 
 module _ {A : Type 0} (right : ℕ → A) (n : ℕ) (xs : List A) (dealt : Dealt right n xs) where
   pub all_dealt : (F : A → Type 0) → ((k : ℕ) → k < n → F (right k)) → All F xs

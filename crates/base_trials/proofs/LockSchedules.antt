@@ -1,6 +1,6 @@
 -- What the calls of the tests' schedules leave of a pass.
 use Rattle.std.proofs.Common.{◌≡◌, ℕ, ◌<◌, Bool, true, false, List, [], ◌∷◌, length, set, replicate, refl, sym, ap, subst, ◌∙◌, arith}
-use Rattle.std.proofs.Common.{MatchBool, MatchOption, Option, Some, None, get_or-set_same}
+use Rattle.std.proofs.Common.{MatchBool, MatchOption, Option, Some, None, get_or-set_same, ◌++◌, slice_get}
 use Rattle.std.proofs.lemmas.List.{length-replicate}
 use Rattle.atomic_table.specs.Seated.{TableId}
 use Rattle.atomic_table.proofs.Lists.{set_here}
@@ -15,6 +15,7 @@ use Rattle.lot_words.specs.CallersRule.{CallersRule}
 use Rattle.lot_words.specs.World.{IsHeld}
 use Rattle.lot_words.specs.Calls.{owning, wanting, woken, GetsBy, FoundNone, Collected}
 use Rattle.base_trials.specs.LockSchedules.{IsPass, IsCalm, Wants, Owns, IsRoot}
+use Rattle.base_trials.proofs.Dealt.{two_taken}
 use Rattle.lot_words.specs.Shown.{pass_at, root_at}
 
 module _ {V : Type 0} (p : PassShown (LockPassView V)) (z : TableId) (t l : ℕ) (is : IsPass z t p) (near : l < 2) where
@@ -78,5 +79,13 @@ module _ {V : Type 0} (z : TableId) (xs : List V) (two : length xs ≡ 2) where
     ap (λ k. replicate k NotHeld) two,
   )
 
-  pub fresh_root_is : (l : ℕ) (q : RootShown LockRootView) → q ≡ root_at z l → IsRoot z l [] q
+  fresh_root_is : (l : ℕ) (q : RootShown LockRootView) → q ≡ root_at z l → IsRoot z l [] q
   fresh_root_is l q e = subst (IsRoot z l []) (sym e) (refl, refl, refl, refl)
+
+  -- of both roots, the last of which was taken first
+  pub fresh_roots : (m : ℕ) → m ≡ 2 → (all one none : List (RootShown LockRootView)) (second first : RootShown LockRootView)
+      → length all ≡ 2 → ((l : ℕ) → l < m → slice_get all l ≡ Some (root_at z l))
+      → all ≡ one ++ second ∷ [] → one ≡ none ++ first ∷ []
+      → IsRoot z 0 [] first × IsRoot z 1 [] second
+  fresh_roots m is all one none second first len each a b =
+      two_taken (root_at z) (λ l. IsRoot z l []) fresh_root_is all one none second first a b (len, λ l near. each l (omega (arith, near, is)))

@@ -1,22 +1,20 @@
 -- The rights of a lot for three threads, as the opening made them; and back again, one after the other.
-use Rattle.std.proofs.Common.{◌≡◌, ℕ, zero, suc, ◌+◌, ◌-◌, ◌<◌, List, [], ◌∷◌, ◌++◌, length, length-append, replicate, map, get_or}
+use Rattle.std.proofs.Common.{◌≡◌, ℕ, zero, suc, ◌+◌, ◌<◌, List, [], ◌∷◌, ◌++◌, length, length-append, replicate, get_or}
 use Rattle.std.proofs.Common.{slice_get, Some, refl, sym, ap, subst, ◌∙◌, arith}
 use Rattle.std.specs.List.{All}
-use Rattle.std.proofs.lemmas.List.{drop-replicate, length-replicate}
 use Rattle.std.proofs.lemmas.List.Elements.{All-nil, All-push}
 use Rattle.atomic_table.specs.Seated.{TableId}
 use Rattle.lot_rights.specs.Shown.{PassShown, RootShown, root_at_table}
 use Rattle.lot_rights.specs.Start.{new_root}
 use Rattle.lot_rights.proofs.Deals.{get_before, get_last}
 use Rattle.lot_rights.proofs.Turns.{all_by_place, some_by_place}
-use Rattle.lot_rights.proofs.Dealt.{AllBack, dealt_last, none_back, one_back}
+use Rattle.lot_rights.proofs.Dealt.{AllBack, none_back, one_back}
 use Rattle.lot_words.specs.declared.views.Hold.TheVariants.{NotHeld}
 use Rattle.lot_words.specs.World.{IsHeld}
-use Rattle.lot_waits.specs.Counts.{CountsView, AreKept, uncounted, kept, wrap}
 use Rattle.lot_whole.specs.Closing.{HasDone}
 use Rattle.lot_whole.specs.declared.views.LotPassView.{LotPassView}
 use Rattle.lot_whole.specs.declared.views.LotRootView.{LotRootView}
-use Rattle.lot_whole.specs.Family.{lock, cond, sem}
+use Rattle.lot_whole.specs.Family.{lock, cond, sem, LotSize}
 use Rattle.lot_whole.specs.Lot.{fresh_pass, fresh_root}
 use Rattle.lot_whole.specs.Standing.{IsUp}
 use Rattle.lot_park.specs.Lots.{Appends}
@@ -31,6 +29,13 @@ unheld : (n l : ℕ) → ¬ IsHeld (get_or (replicate n NotHeld) l NotHeld)
 unheld zero l held = held
 unheld (suc n) zero held = held
 unheld (suc n) (suc l) held = unheld n l held
+
+-- with as many values as locks, and no permits
+pub opened_size : (size : LotSize) (locks conds values : ℕ) (permits : List ℕ)
+    → size ≡ record { threads = 3; locks = values; conds = conds; permits = permits } → values ≡ locks → permits ≡ []
+    → size ≡ size_of locks conds
+opened_size size locks conds values permits is all none =
+    is ∙ (λ i. record { threads = 3; locks = all i; conds = conds; permits = none i })
 
 module _ {V : Type 0} (table : TableId) (locks conds : ℕ) (values : List V) where
   fresh_up : IsUp (fresh_pass (size_of locks conds) values)
@@ -48,37 +53,6 @@ module _ {V : Type 0} (table : TableId) (locks conds : ℕ) (values : List V) wh
     },
     refl,
   )
-
-  -- taken from the last on
-  pub three_dealt : (xs ys zs left : List (PassShown (LotPassView V))) (two one none : PassShown (LotPassView V)) → length xs ≡ 3
-      → ((t : ℕ) → t < 3 → slice_get xs t ≡ Some (fresh_at table (size_of locks conds) values t)) → xs ≡ ys ++ two ∷ []
-      → ys ≡ zs ++ one ∷ [] → zs ≡ left ++ none ∷ []
-      → (none ≡ fresh_at table (size_of locks conds) values 0) × (one ≡ fresh_at table (size_of locks conds) values 1)
-      × (two ≡ fresh_at table (size_of locks conds) values 2)
-  three_dealt xs ys zs left two one none long each a b c =
-      let second = dealt_last (fresh_at table (size_of locks conds) values) 2 xs ys two a (long, each) in
-      let first = dealt_last (fresh_at table (size_of locks conds) values) 1 ys zs one b second.1 in
-      let last = dealt_last (fresh_at table (size_of locks conds) values) 0 zs left none c first.1 in
-      (last.0, first.0, second.0)
-
--- ---- what is kept of no counts
-wrapped_zeros : (n : ℕ) → map wrap (replicate {A = ℕ} n 0) ≡ replicate {A = ℕ} n 0
-wrapped_zeros zero = refl
-wrapped_zeros (suc n) = ap (λ ns. 0 ∷ ns) (wrapped_zeros n)
-
-kept_zeros : (locks conds : ℕ) → kept locks (replicate {A = ℕ} (locks + conds) 0) ≡ replicate {A = ℕ} conds 0
-kept_zeros locks conds =
-    ap (map wrap) (drop-replicate locks (locks + conds) 0)
-    ∙ (let left : (locks + conds) - locks ≡ conds = omega arith in ap (λ n. map wrap (replicate {A = ℕ} n 0)) left ∙ wrapped_zeros conds)
-
-pub zeros_kept : (locks conds t : ℕ) (q : CountsView) (called woken : List ℕ) → q ≡ uncounted (locks + conds) t
-    → called ≡ replicate conds 0 → woken ≡ replicate conds 0
-    → AreKept locks conds q called woken
-zeros_kept locks conds t q called woken is c w = subst (λ (r : CountsView). AreKept locks conds r called woken) (sym is) (record {
-  wide = (length-replicate (locks + conds) 0, length-replicate (locks + conds) 0);
-  called_are = c ∙ sym (kept_zeros locks conds);
-  woken_are = w ∙ sym (kept_zeros locks conds);
-})
 
 -- ---- back again
 module _ {V : Type 0} (table : TableId) where

@@ -1,6 +1,8 @@
 //! Assertions as calls: what a macro writes at its place would be checked with all that the function around it knows.
-ghost use Rattle.std.specs.Prelude.{◌≡◌, ◌≤◌, true, vec_len, vec_capacity};
+ghost use Rattle.std.specs.Prelude.{◌≡◌, ◌≤◌, true, [], vec_len, vec_capacity};
+ghost use Rattle.lot_park.specs.Lots.{AreIdle};
 
+use lot_park::{MOST_THREADS, ParkingLot, Scheme};
 use std::alloc::Global;
 use std::fmt::Debug;
 use std::process::Abort;
@@ -10,15 +12,24 @@ pub(crate) fn failed(rt: &impl Abort, what: &str) -> ! {
     panic!(rt; "{what}")
 }
 
-/// Room for so many, or the test fails.
-pub(crate) fn room_for<T>(rt: &impl Abort, alloc: Global, count: usize) -> Vec<T>
-    ensures empty { vec_len result ≡ 0 }
-    ensures room { count ≤ vec_capacity result }
+/// A parking lot for so many threads, and room for its roots, or the test fails.
+pub(crate) fn opened_lot<S: Scheme>(
+    rt: &impl Abort,
+    alloc: Global,
+    threads: usize,
+    roots: Vec<S::Root>,
+    scheme: S,
+) -> (ParkingLot<S>, Vec<S::Root>)
+    requires few { threads ≤ MOST_THREADS }
+    requires idle { AreIdle S.Root.view roots.items }
+    ensures lot { result.0 ≡ record { scheme = scheme; threads = threads; keys = vec_len roots } }
+    ensures room { (vec_len result.1 ≡ 0) × (vec_capacity result.1 ≡ vec_capacity roots) }
+    ensures empty { result.1.items ≡ [] }
 {
-    let Ok(room) = Vec::with_capacity(alloc, count) else {
-        failed(rt, "no memory")
-    };
-    room
+    match ParkingLot::open(alloc, threads, roots, scheme) {
+        Ok(opened) => opened,
+        Err(_refused) => failed(rt, "no memory"),
+    }
 }
 
 /// It is so, or the test fails.

@@ -12,3 +12,5 @@ mod kinds;
 mod park;
 #[cfg(test)]
 mod rights;
+#[cfg(test)]
+mod taking;

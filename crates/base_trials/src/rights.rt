@@ -9,4 +9,4 @@ mod openings;
 mod owners;
 mod sems;
 mod states;
-mod tally;
+pub(crate) mod tally;

@@ -1,8 +1,8 @@
 //! A lot whose scheme holds one thread where it begins to look for its letter.
 ghost use Rattle.std.specs.Prelude.{◌≡◌};
 
-use crate::kinds::tables::Nothing;
 use crate::park::askings::{ASKINGS, is_within};
+use crate::rights::tally::Tally;
 use lot_locks::{LockSteps, Locks, Released};
 use lot_park::{ParkingLot, Scheme, Token, UnparkResult};
 use lot_scheme::{LotName, LotScheme, NamedPass, NamedRoot};
@@ -183,4 +183,4 @@ impl<V: Keeps + Send, N: LotName<V> + Send> LockSteps for Gated<V, N> {
     }
 }
 
-pub(crate) type GatedLot<N> = ParkingLot<Gated<Nothing, N>>;
+pub(crate) type GatedLot<N> = ParkingLot<Gated<Tally, N>>;

@@ -1,14 +1,15 @@
 //! A lock is handed over while the table of buckets grows, on a lot for five threads. Three of them have passes.
 ghost use Rattle.std.specs.Prelude.{◌≡◌, ℕ, ◌<◌, ◌≤◌, Some, None, IsSomeAnd};
 ghost use Rattle.base_trials.specs.Calm.{IsCalm, HasIt};
-ghost use Rattle.base_trials.specs.Waits.{IsSmall};
+ghost use Rattle.base_trials.specs.Waits.{IsSmallLot};
 
 use crate::asserts::{bits_are, equal, failed};
 use crate::kinds::asserts::count_is;
 use crate::kinds::gates::{Gated, GatedLot};
 use crate::kinds::locks::{get, release};
-use crate::kinds::tables::{Nothing, Pass};
+use crate::kinds::tables::{CalmThree, Pass};
 use crate::park::askings::await_line;
+use crate::rights::tally::Tally;
 use lot_locks::{Locks, Released};
 use lot_park::{AtOnce, Grown};
 use lot_scheme::LotName;
@@ -19,32 +20,30 @@ use std::thread;
 use std::thread::Threads;
 
 // Sleeps in the line of the lock until it has it.
-fn own<N: LotName<Nothing> + Send, R: Wait>(rt: &R, lot: &GatedLot<N>, pass: Pass<N>) -> Pass<N>
-    requires small { IsSmall N.locks N.conds N.first_sem }
-    requires sizes { (lot.now.keys ≡ 3) × (lot.now.threads ≡ 5) }
+fn own<N: LotName<Tally> + Send, R: Wait>(rt: &R, lot: &GatedLot<N>, pass: Pass<N>) -> Pass<N>
+    requires small { IsSmallLot 5 N.locks N.conds N.first_sem lot.now.threads lot.now.keys }
     requires thread { pass.thread < 5 }
     requires pass { (t : ℕ) × IsCalm t pass }
     ensures { (t : ℕ) → IsCalm t pass → HasIt t 0 result }
 {
-    get_or_park::<Gated<Nothing, N>, Locks, R, AtOnce>(rt, lot, pass, 0, Look::Taken, &AtOnce)
+    get_or_park::<Gated<Tally, N>, Locks, R, AtOnce>(rt, lot, pass, 0, Look::Taken, &AtOnce)
 }
 
 // The word of the lock is this, and so many are in its line.
-fn lock_is<N: LotName<Nothing> + Send, R: Wait + Abort>(
+fn lock_is<N: LotName<Tally> + Send, R: Wait + Abort>(
     rt: &R,
     lot: &GatedLot<N>,
     word: u64,
     line: usize,
 )
-    requires small { IsSmall N.locks N.conds N.first_sem }
-    requires sizes { lot.now.keys ≡ 3 }
+    requires small { IsSmallLot 5 N.locks N.conds N.first_sem lot.now.threads lot.now.keys }
 {
     bits_are(rt, lot.scheme().inner().lock_bits(0), word);
     count_is(rt, lot.line_length(rt, 0), line);
 }
 
 // The table of buckets grows so for so many threads.
-fn grows<N: LotName<Nothing> + Send, R: Wait + Abort>(
+fn grows<N: LotName<Tally> + Send, R: Wait + Abort>(
     rt: &R,
     lot: &GatedLot<N>,
     threads: usize,
@@ -61,13 +60,12 @@ fn grows<N: LotName<Nothing> + Send, R: Wait + Abort>(
 
 // Thread 0, which has the lock: hands it to the first of two sleepers, who is held before it finds its letter. The
 // table grows, and then that one goes on.
-fn hands_over<N: LotName<Nothing> + Send, R: Wait + Abort>(
+fn hands_over<N: LotName<Tally> + Send, R: Wait + Abort>(
     rt: &R,
     lot: &GatedLot<N>,
     here: &mut Option<Pass<N>>,
 )
-    requires small { IsSmall N.locks N.conds N.first_sem }
-    requires sizes { (lot.now.keys ≡ 3) × (lot.now.threads ≡ 5) }
+    requires small { IsSmallLot 5 N.locks N.conds N.first_sem lot.now.threads lot.now.keys }
     requires has { IsSomeAnd here.old (HasIt 0 0) }
     ensures { IsSomeAnd here.new (IsCalm 0) }
 {
@@ -82,13 +80,12 @@ fn hands_over<N: LotName<Nothing> + Send, R: Wait + Abort>(
 }
 
 // Thread 1, the first in the line: the lock is handed to it, and the second is still in the line. It lets the lock go.
-fn is_handed<N: LotName<Nothing> + Send, R: Wait + Abort>(
+fn is_handed<N: LotName<Tally> + Send, R: Wait + Abort>(
     rt: &R,
     lot: &GatedLot<N>,
     here: &mut Option<Pass<N>>,
 )
-    requires small { IsSmall N.locks N.conds N.first_sem }
-    requires sizes { (lot.now.keys ≡ 3) × (lot.now.threads ≡ 5) }
+    requires small { IsSmallLot 5 N.locks N.conds N.first_sem lot.now.threads lot.now.keys }
     requires calm { IsSomeAnd here.old (IsCalm 1) }
     ensures { IsSomeAnd here.new (IsCalm 1) }
 {
@@ -100,13 +97,12 @@ fn is_handed<N: LotName<Nothing> + Send, R: Wait + Abort>(
 }
 
 // Thread 2, the second in the line: it is woken by that.
-fn is_woken<N: LotName<Nothing> + Send, R: Wait + Abort>(
+fn is_woken<N: LotName<Tally> + Send, R: Wait + Abort>(
     rt: &R,
     lot: &GatedLot<N>,
     here: &mut Option<Pass<N>>,
 )
-    requires small { IsSmall N.locks N.conds N.first_sem }
-    requires sizes { (lot.now.keys ≡ 3) × (lot.now.threads ≡ 5) }
+    requires small { IsSmallLot 5 N.locks N.conds N.first_sem lot.now.threads lot.now.keys }
     requires calm { IsSomeAnd here.old (IsCalm 2) }
     ensures { IsSomeAnd here.new (IsCalm 2) }
 {
@@ -118,7 +114,7 @@ fn is_woken<N: LotName<Nothing> + Send, R: Wait + Abort>(
 }
 
 // A right that was lent to a thread comes back: a closure can't hold it.
-fn give_back<N: LotName<Nothing> + Send>(here: &mut Option<Pass<N>>, pass: Pass<N>)
+fn give_back<N: LotName<Tally> + Send>(here: &mut Option<Pass<N>>, pass: Pass<N>)
     requires { here.old ≡ None }
     ensures { here.new ≡ Some pass }
 {
@@ -129,26 +125,23 @@ fn give_back<N: LotName<Nothing> + Send>(here: &mut Option<Pass<N>>, pass: Pass<
 }
 
 // Both sleepers at once.
-fn sleep_side_by_side<'a, N: LotName<Nothing> + Send + Sync, R: Threads + Wait + Abort + Sync>(
+fn sleep_side_by_side<'a, N: LotName<Tally> + Send + Sync, R: Threads + Wait + Abort + Sync>(
     rt: &'a R,
     lot: &'a GatedLot<N>,
     one: &'a mut Option<Pass<N>>,
     two: &'a mut Option<Pass<N>>,
 )
-    requires small { IsSmall N.locks N.conds N.first_sem }
-    requires sizes { (lot.now.keys ≡ 3) × (lot.now.threads ≡ 5) }
+    requires small { IsSmallLot 5 N.locks N.conds N.first_sem lot.now.threads lot.now.keys }
     requires calm { IsSomeAnd one.old (IsCalm 1) × IsSomeAnd two.old (IsCalm 2) }
     ensures { IsSomeAnd one.new (IsCalm 1) × IsSomeAnd two.new (IsCalm 2) }
 {
     let mut handed = ||
-        requires small { IsSmall N.locks N.conds N.first_sem }
-        requires sizes { (lot.now.keys ≡ 3) × (lot.now.threads ≡ 5) }
+        requires small { IsSmallLot 5 N.locks N.conds N.first_sem lot.now.threads lot.now.keys }
         requires calm { IsSomeAnd one.now (IsCalm 1) }
         ensures { IsSomeAnd one.exit.now (IsCalm 1) }
     { is_handed(rt, lot, one) };
     let mut woken = ||
-        requires small { IsSmall N.locks N.conds N.first_sem }
-        requires sizes { (lot.now.keys ≡ 3) × (lot.now.threads ≡ 5) }
+        requires small { IsSmallLot 5 N.locks N.conds N.first_sem lot.now.threads lot.now.keys }
         requires calm { IsSomeAnd two.now (IsCalm 2) }
         ensures { IsSomeAnd two.exit.now (IsCalm 2) }
     { is_woken(rt, lot, two) };
@@ -156,13 +149,12 @@ fn sleep_side_by_side<'a, N: LotName<Nothing> + Send + Sync, R: Threads + Wait +
 }
 
 // Both sleepers, whose rights are lent.
-fn both_sleep<N: LotName<Nothing> + Send + Sync, R: Threads + Wait + Abort + Sync>(
+fn both_sleep<N: LotName<Tally> + Send + Sync, R: Threads + Wait + Abort + Sync>(
     rt: &R,
     lot: &GatedLot<N>,
     here: &mut Option<(Pass<N>, Pass<N>)>,
 )
-    requires small { IsSmall N.locks N.conds N.first_sem }
-    requires sizes { (lot.now.keys ≡ 3) × (lot.now.threads ≡ 5) }
+    requires small { IsSmallLot 5 N.locks N.conds N.first_sem lot.now.threads lot.now.keys }
     requires calm { IsSomeAnd here.old (λ p. IsCalm 1 p.0 × IsCalm 2 p.1) }
     ensures { IsSomeAnd here.new (λ p. IsCalm 1 p.0 × IsCalm 2 p.1) }
 {
@@ -177,28 +169,25 @@ fn both_sleep<N: LotName<Nothing> + Send + Sync, R: Threads + Wait + Abort + Syn
 }
 
 // All three at once.
-fn side_by_side<'a, N: LotName<Nothing> + Send + Sync, R: Threads + Wait + Abort + Sync>(
+fn side_by_side<'a, N: LotName<Tally> + Send + Sync, R: Threads + Wait + Abort + Sync>(
     rt: &'a R,
     lot: &'a GatedLot<N>,
     owner: &'a mut Option<Pass<N>>,
     sleepers: &'a mut Option<(Pass<N>, Pass<N>)>,
 )
-    requires small { IsSmall N.locks N.conds N.first_sem }
-    requires sizes { (lot.now.keys ≡ 3) × (lot.now.threads ≡ 5) }
+    requires small { IsSmallLot 5 N.locks N.conds N.first_sem lot.now.threads lot.now.keys }
     requires has { IsSomeAnd owner.old (HasIt 0 0) }
     requires calm { IsSomeAnd sleepers.old (λ p. IsCalm 1 p.0 × IsCalm 2 p.1) }
     ensures owner { IsSomeAnd owner.new (IsCalm 0) }
     ensures sleepers { IsSomeAnd sleepers.new (λ p. IsCalm 1 p.0 × IsCalm 2 p.1) }
 {
     let mut hands = ||
-        requires small { IsSmall N.locks N.conds N.first_sem }
-        requires sizes { (lot.now.keys ≡ 3) × (lot.now.threads ≡ 5) }
+        requires small { IsSmallLot 5 N.locks N.conds N.first_sem lot.now.threads lot.now.keys }
         requires has { IsSomeAnd owner.now (HasIt 0 0) }
         ensures { IsSomeAnd owner.exit.now (IsCalm 0) }
     { hands_over(rt, lot, owner) };
     let mut sleep = ||
-        requires small { IsSmall N.locks N.conds N.first_sem }
-        requires sizes { (lot.now.keys ≡ 3) × (lot.now.threads ≡ 5) }
+        requires small { IsSmallLot 5 N.locks N.conds N.first_sem lot.now.threads lot.now.keys }
         requires calm { IsSomeAnd sleepers.now (λ p. IsCalm 1 p.0 × IsCalm 2 p.1) }
         ensures { IsSomeAnd sleepers.exit.now (λ p. IsCalm 1 p.0 × IsCalm 2 p.1) }
     { both_sleep(rt, lot, sleepers) };
@@ -207,26 +196,19 @@ fn side_by_side<'a, N: LotName<Nothing> + Send + Sync, R: Threads + Wait + Abort
 
 // Thread 0 gets the lock, and the two others come into its line, one after the other.
 pub(crate) fn handed_while_it_grows<
-    N: LotName<Nothing> + Send + Sync,
+    N: LotName<Tally> + Send + Sync,
     R: Threads + Wait + Abort + Sync,
->(
-    rt: &R,
-    lot: &GatedLot<N>,
-    zero: Pass<N>,
-    one: Pass<N>,
-    two: Pass<N>,
-) -> (Pass<N>, Pass<N>, Pass<N>)
-    requires small { IsSmall N.locks N.conds N.first_sem }
-    requires sizes { (lot.now.keys ≡ 3) × (lot.now.threads ≡ 5) }
-    requires calm { IsCalm 0 zero × IsCalm 1 one × IsCalm 2 two }
-    ensures { IsCalm 0 result.0 × IsCalm 1 result.1 × IsCalm 2 result.2 }
+>(rt: &R, lot: &GatedLot<N>, three: CalmThree<N>) -> CalmThree<N>
+    requires small { IsSmallLot 5 N.locks N.conds N.first_sem lot.now.threads lot.now.keys }
 {
     grows(rt, lot, 2, 3, 12);
+    let CalmThree { zero, one, two } = three;
     let mut owner = Some(get(rt, lot.scheme().inner(), zero));
     let mut sleepers = Some((one, two));
     side_by_side(rt, lot, &mut owner, &mut sleepers);
     equal(rt, lot.scheme().found(), 2);
     lock_is(rt, lot, 0, 0);
+    let zero = owner.unwrap();
     let (one, two) = sleepers.unwrap();
-    (owner.unwrap(), one, two)
+    CalmThree { zero, one, two }
 }

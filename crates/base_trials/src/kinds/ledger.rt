@@ -3,8 +3,9 @@ ghost use Rattle.std.specs.Prelude.{◌≡◌};
 ghost use Rattle.base_trials.specs.Opened.{AreDealt, AreFreshRoots, size_of};
 
 use crate::kinds::asserts::ledger_is;
-use crate::kinds::tables::{Nothing, Passes, Roots, Words, close_words, deal, gather, open_words};
+use crate::kinds::tables::{Passes, Roots, Words, close_words, deal, gather, open_words};
 use crate::kinds::waiters::{Room, deal_waiters, settle};
+use crate::rights::tally::Tally;
 use lot_rights::WordsFault;
 use lot_scheme::LotName;
 use std::alloc::Global;
@@ -13,7 +14,7 @@ use std::process::Abort;
 use std::test::*;
 
 // Names the passes of three threads and settles their conditions, where nobody waited or notified.
-fn settled_unused<N: LotName<Nothing>>(
+fn settled_unused<N: LotName<Tally>>(
     rt: &impl Abort,
     alloc: Global,
     words: Words,

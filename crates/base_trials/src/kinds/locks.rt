@@ -3,18 +3,19 @@
 ghost use Rattle.std.specs.Prelude.{◌≡◌, ℕ, ◌<◌, []};
 ghost use Rattle.base_trials.specs.Calm.{IsCalm, IsFor, Wants, HasIt};
 ghost use Rattle.base_trials.specs.Opened.{AreDealt, AreFreshRoots, size_of};
-ghost use Rattle.base_trials.specs.Waits.{IsSmall};
+ghost use Rattle.base_trials.specs.Waits.{IsSmall, IsSmallLot};
 
-use crate::asserts::{bits_are, failed, is_so};
+use crate::asserts::{bits_are, failed, is_so, opened_lot};
 use crate::kinds::asserts::{count_is, is_not, parked_is, released_is};
 use crate::kinds::gates::{Gated, GatedLot};
 use crate::kinds::handoffs::handed_while_it_grows;
 use crate::kinds::tables::{
-    EARLY, Nothing, OneTable, Pass, Passes, Roots, Words, close_words, deal, gather, name_roots,
+    CalmThree, EARLY, OneTable, Pass, Passes, Roots, Words, close_words, deal, gather, name_roots,
     open_words, unname_roots,
 };
+use crate::rights::tally::Tally;
 use lot_locks::{Locks, Released, let_go};
-use lot_park::{BeforeSleep, Parked, ParkingLot};
+use lot_park::{BeforeSleep, Parked};
 use lot_scheme::{LotName, LotScheme};
 use lot_seeking::seeking::park;
 use std::alloc::Global;
@@ -40,7 +41,7 @@ impl<R: Abort> BeforeSleep for Never<'_, R> {
 }
 
 // The lock 0 is free, and is got.
-pub(crate) fn get<N: LotName<Nothing> + Send>(
+pub(crate) fn get<N: LotName<Tally> + Send>(
     rt: &impl Abort,
     scheme: &OneTable<N>,
     pass: Pass<N>,
@@ -55,7 +56,7 @@ pub(crate) fn get<N: LotName<Nothing> + Send>(
 }
 
 // The lock is held, and is wanted from now on.
-fn want<N: LotName<Nothing> + Send>(rt: &impl Abort, scheme: &OneTable<N>, pass: Pass<N>) -> Pass<N>
+fn want<N: LotName<Tally> + Send>(rt: &impl Abort, scheme: &OneTable<N>, pass: Pass<N>) -> Pass<N>
     requires small { IsSmall N.locks N.conds N.first_sem }
     requires pass { (t : ℕ) × IsFor t 0 pass }
     ensures { (t : ℕ) → IsFor t 0 pass → Wants t 0 result }
@@ -66,7 +67,7 @@ fn want<N: LotName<Nothing> + Send>(rt: &impl Abort, scheme: &OneTable<N>, pass:
 }
 
 // The lock is held, and is marked as parked.
-fn mark<N: LotName<Nothing> + Send>(rt: &impl Abort, scheme: &OneTable<N>, pass: Pass<N>) -> Pass<N>
+fn mark<N: LotName<Tally> + Send>(rt: &impl Abort, scheme: &OneTable<N>, pass: Pass<N>) -> Pass<N>
     requires small { IsSmall N.locks N.conds N.first_sem }
     requires pass { (t : ℕ) × Wants t 0 pass }
     ensures { (t : ℕ) → Wants t 0 pass → Wants t 0 result }
@@ -77,15 +78,14 @@ fn mark<N: LotName<Nothing> + Send>(rt: &impl Abort, scheme: &OneTable<N>, pass:
 }
 
 // Lets the lock go at moment 0, and this becomes of it.
-pub(crate) fn release<N: LotName<Nothing> + Send, R: Wait + Abort>(
+pub(crate) fn release<N: LotName<Tally> + Send, R: Wait + Abort>(
     rt: &R,
     lot: &GatedLot<N>,
     pass: Pass<N>,
     fair: bool,
     wanted: Released,
 ) -> Pass<N>
-    requires small { IsSmall N.locks N.conds N.first_sem }
-    requires sizes { lot.now.keys ≡ 3 }
+    requires small { IsSmallLot 5 N.locks N.conds N.first_sem lot.now.threads lot.now.keys }
     requires pass { (t : ℕ) × HasIt t 0 pass }
     ensures { (t : ℕ) → HasIt t 0 pass → IsCalm t result }
 {
@@ -95,18 +95,17 @@ pub(crate) fn release<N: LotName<Nothing> + Send, R: Wait + Abort>(
 }
 
 // Its parking comes too late: it is not queued, and still wants the lock.
-fn park_in_vain<N: LotName<Nothing> + Send, R: Wait + Abort>(
+fn park_in_vain<N: LotName<Tally> + Send, R: Wait + Abort>(
     rt: &R,
     lot: &GatedLot<N>,
     pass: Pass<N>,
 ) -> Pass<N>
-    requires small { IsSmall N.locks N.conds N.first_sem }
-    requires sizes { (lot.now.keys ≡ 3) × (lot.now.threads ≡ 5) }
+    requires small { IsSmallLot 5 N.locks N.conds N.first_sem lot.now.threads lot.now.keys }
     requires thread { pass.thread < 3 }
     requires pass { (t : ℕ) × Wants t 0 pass }
     ensures { (t : ℕ) → Wants t 0 pass → Wants t 0 result }
 {
-    let (pass, parked) = park::<Gated<Nothing, N>, Locks, R, Never<'_, R>>(
+    let (pass, parked) = park::<Gated<Tally, N>, Locks, R, Never<'_, R>>(
         rt,
         lot,
         pass,
@@ -118,7 +117,7 @@ fn park_in_vain<N: LotName<Nothing> + Send, R: Wait + Abort>(
 }
 
 // The word of the lock is this.
-fn word_is<N: LotName<Nothing>>(rt: &impl Abort, scheme: &OneTable<N>, wanted: u64)
+fn word_is<N: LotName<Tally>>(rt: &impl Abort, scheme: &OneTable<N>, wanted: u64)
     requires { IsSmall N.locks N.conds N.first_sem }
 {
     bits_are(rt, scheme.lock_bits(0), wanted);
@@ -126,18 +125,14 @@ fn word_is<N: LotName<Nothing>>(rt: &impl Abort, scheme: &OneTable<N>, wanted: u
 
 // The lock is marked by thread 1, let go, and got by thread 2 before thread 1 parks: the parking is invalid, the line
 // is as it was, and thread 1 goes on trying until it has the lock.
-fn too_late<N: LotName<Nothing> + Send, R: Wait + Abort>(
+fn too_late<N: LotName<Tally> + Send, R: Wait + Abort>(
     rt: &R,
     lot: &GatedLot<N>,
-    zero: Pass<N>,
-    one: Pass<N>,
-    two: Pass<N>,
-) -> (Pass<N>, Pass<N>, Pass<N>)
-    requires small { IsSmall N.locks N.conds N.first_sem }
-    requires sizes { (lot.now.keys ≡ 3) × (lot.now.threads ≡ 5) }
-    requires calm { IsCalm 0 zero × IsCalm 1 one × IsCalm 2 two }
-    ensures { IsCalm 0 result.0 × IsCalm 1 result.1 × IsCalm 2 result.2 }
+    three: CalmThree<N>,
+) -> CalmThree<N>
+    requires small { IsSmallLot 5 N.locks N.conds N.first_sem lot.now.threads lot.now.keys }
 {
+    let CalmThree { zero, one, two } = three;
     let scheme = lot.scheme().inner();
     let zero = get(rt, scheme, zero);
     let one = want(rt, scheme, one);
@@ -153,7 +148,7 @@ fn too_late<N: LotName<Nothing> + Send, R: Wait + Abort>(
     let two = release(rt, lot, two, false, Released::Quiet);
     let one = get(rt, scheme, one);
     let one = release(rt, lot, one, false, Released::Quiet);
-    (zero, one, two)
+    CalmThree { zero, one, two }
 }
 
 /// What is played on a lot.
@@ -163,27 +158,22 @@ enum Schedule {
     Handoff,
 }
 
-fn played<N: LotName<Nothing> + Send + Sync, R: Threads + Wait + Abort + Sync>(
+fn played<N: LotName<Tally> + Send + Sync, R: Threads + Wait + Abort + Sync>(
     rt: &R,
     lot: &GatedLot<N>,
-    zero: Pass<N>,
-    one: Pass<N>,
-    two: Pass<N>,
+    three: CalmThree<N>,
     schedule: Schedule,
-) -> (Pass<N>, Pass<N>, Pass<N>)
-    requires small { IsSmall N.locks N.conds N.first_sem }
-    requires sizes { (lot.now.keys ≡ 3) × (lot.now.threads ≡ 5) }
-    requires calm { IsCalm 0 zero × IsCalm 1 one × IsCalm 2 two }
-    ensures { IsCalm 0 result.0 × IsCalm 1 result.1 × IsCalm 2 result.2 }
+) -> CalmThree<N>
+    requires small { IsSmallLot 5 N.locks N.conds N.first_sem lot.now.threads lot.now.keys }
 {
     match schedule {
-        Schedule::LateParking => too_late(rt, lot, zero, one, two),
-        Schedule::Handoff => handed_while_it_grows(rt, lot, zero, one, two),
+        Schedule::LateParking => too_late(rt, lot, three),
+        Schedule::Handoff => handed_while_it_grows(rt, lot, three),
     }
 }
 
 // Plays on a lot, and closes it.
-fn play<N: LotName<Nothing> + Send + Sync, R: Threads + Wait + Abort + Sync>(
+fn play<N: LotName<Tally> + Send + Sync, R: Threads + Wait + Abort + Sync>(
     rt: &R,
     alloc: Global,
     words: Words,
@@ -202,11 +192,9 @@ fn play<N: LotName<Nothing> + Send + Sync, R: Threads + Wait + Abort + Sync>(
         failed(rt, "no memory")
     };
     let scheme = Gated::new(LotScheme::new(words, 2, 3));
-    let (lot, mut back) = match ParkingLot::open(alloc, LOT_THREADS, named, scheme) {
-        Ok(opened) => opened,
-        Err(_refused) => failed(rt, "no memory"),
-    };
-    let (zero, one, two) = played(rt, &lot, zero, one, two, schedule);
+    let (lot, mut back) = opened_lot(rt, alloc, LOT_THREADS, named, scheme);
+    let three = played(rt, &lot, CalmThree { zero, one, two }, schedule);
+    let CalmThree { zero, one, two } = three;
     gather(&mut passes, zero, one, two);
     let words = lot.close(rt, &mut back).into_inner().into_words();
     unname_roots(&mut roots, back);

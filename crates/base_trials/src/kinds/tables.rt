@@ -1,16 +1,18 @@
 //! A lot for three threads, its opening and its end. Most schedules are on one of two locks, whose numbers are 0 and 1,
 //! and of one condition, whose number is 2.
 ghost use Rattle.std.specs.Prelude.{◌≡◌, ◌+◌, ◌<◌, ◌≤◌, [], vec_len, vec_capacity, IfOk};
+ghost use Rattle.std.specs.List.{All};
 ghost use Rattle.lot_park.specs.Lots.{AreIdle, Appends};
 ghost use Rattle.lot_scheme.specs.Roots.{root_view};
 ghost use Rattle.base_trials.specs.Calm.{IsCalm};
 ghost use Rattle.base_trials.specs.Opened.{AreDealt, AreFreshRoots, AreBack, AreRootsBack, IsUntouched, size_of};
 
+use crate::rights::tally::Tally;
+use crate::taking::take_three;
 use lot_park::Moment;
 use lot_rights::WordsFault;
 use lot_scheme::{LotName, LotScheme, NamedPass, NamedRoot};
 use lot_whole::{LotLyingRoot, LotPass, LotWords};
-use lot_words::Keeps;
 use std::alloc::{AllocError, Global};
 
 pub(crate) const THREADS: usize = 3;
@@ -18,41 +20,32 @@ pub(crate) const THREADS: usize = 3;
 // At this moment no release is fair, unless it is asked to be.
 pub(crate) const EARLY: Moment = Moment { now: 0, word: 7 };
 
-// What a lock guards.
-#[derive(Drop)]
-pub(crate) struct Nothing;
+pub(crate) type OneTable<N> = LotScheme<Tally, N>;
 
-impl Keeps for Nothing {
-    type Part = ();
+pub(crate) type Pass<N> = NamedPass<Tally, N>;
 
-    ghost keeps = { λ k x. Unit {0} };
+pub(crate) type Words = LotWords<Tally>;
 
-    ghost grows = { λ x y. Unit {0} };
+pub(crate) type Passes = Vec<LotPass<Tally>>;
 
-    ghost part = { λ t x. tt };
+pub(crate) type Roots = Vec<LotLyingRoot<Tally>>;
 
-    ghost grows_itself = { λ x. tt };
-
-    ghost grows_on = { λ x y z p q. tt };
+/// The passes of the three threads, each of which has no lock and wants none.
+pub(crate) struct CalmThree<N: LotName<Tally>> {
+    pub(crate) zero: Pass<N>,
+    pub(crate) one: Pass<N>,
+    pub(crate) two: Pass<N>,
+    ghost calm: { IsCalm 0 zero × IsCalm 1 one × IsCalm 2 two },
 }
 
-pub(crate) type OneTable<N> = LotScheme<Nothing, N>;
-
-pub(crate) type Pass<N> = NamedPass<Nothing, N>;
-
-pub(crate) type Words = LotWords<Nothing>;
-
-pub(crate) type Passes = Vec<LotPass<Nothing>>;
-
-pub(crate) type Roots = Vec<LotLyingRoot<Nothing>>;
-
-// So many of what the locks guard.
-fn nothings(alloc: Global, count: usize) -> Result<Vec<Nothing>, AllocError>
-    ensures { IfOk result (λ values. vec_len values ≡ count) }
+// What so many locks guard, none of which is counted at.
+fn tallies(alloc: Global, count: usize) -> Result<Vec<Tally>, AllocError>
+    ensures len { IfOk result (λ values. vec_len values ≡ count) }
+    ensures zero { IfOk result (λ values. All (λ (x : Tally). x.total ≡ 0) values.items) }
 {
     let mut values = Vec::new(alloc);
     for _ in 0..count {
-        values.push(Nothing)?;
+        values.push(Tally { total: 0 })?;
     }
     Ok(values)
 }
@@ -68,7 +61,7 @@ pub(crate) fn open_words(
     ensures passes { IfOk result (λ r. AreDealt r.0.table locks conds r.1.items) }
     ensures roots { IfOk result (λ r. AreFreshRoots r.0.table locks conds r.2.items) }
 {
-    let Ok(values) = nothings(alloc, locks) else {
+    let Ok(values) = tallies(alloc, locks) else {
         return Err(WordsFault::NoMemory);
     };
     match LotWords::open(alloc, THREADS, values, conds, Vec::new(alloc)) {
@@ -78,20 +71,22 @@ pub(crate) fn open_words(
 }
 
 /// The passes of the three threads under the lot's name.
-pub(crate) fn deal<N: LotName<Nothing>>(passes: &mut Passes) -> (Pass<N>, Pass<N>, Pass<N>)
+pub(crate) fn deal<N: LotName<Tally>>(passes: &mut Passes) -> (Pass<N>, Pass<N>, Pass<N>)
     requires { AreDealt N.opening.locks N.locks N.conds passes.old.items }
     ensures fresh { IsUntouched (N.locks + N.conds) 0 result.0 × IsUntouched (N.locks + N.conds) 1 result.1
         × IsUntouched (N.locks + N.conds) 2 result.2 }
     ensures room { (vec_len passes.new ≡ 0) × (3 ≤ vec_capacity passes.new) }
 {
-    let two = NamedPass::new(passes.take_last());
-    let one = NamedPass::new(passes.take_last());
-    let zero = NamedPass::new(passes.take_last());
-    (zero, one, two)
+    let (zero, one, two) = take_three(passes);
+    (
+        NamedPass::new(zero),
+        NamedPass::new(one),
+        NamedPass::new(two),
+    )
 }
 
 /// They come back.
-pub(crate) fn gather<N: LotName<Nothing>>(
+pub(crate) fn gather<N: LotName<Tally>>(
     passes: &mut Passes,
     zero: Pass<N>,
     one: Pass<N>,
@@ -107,10 +102,10 @@ pub(crate) fn gather<N: LotName<Nothing>>(
 }
 
 /// The roots of the two locks and of the condition under the lot's name.
-pub(crate) fn name_roots<N: LotName<Nothing>>(
+pub(crate) fn name_roots<N: LotName<Tally>>(
     alloc: Global,
     roots: &mut Roots,
-) -> Result<Vec<NamedRoot<Nothing, N>>, AllocError>
+) -> Result<Vec<NamedRoot<Tally, N>>, AllocError>
     requires keys { (N.locks ≡ 2) × (N.conds ≡ 1) × (N.first_sem ≡ 3) }
     requires fresh { AreFreshRoots N.opening.locks 2 1 roots.old.items }
     ensures idle { IfOk result (λ named. (vec_len named ≡ 3) × AreIdle root_view named.items) }
@@ -127,9 +122,9 @@ pub(crate) fn name_roots<N: LotName<Nothing>>(
 }
 
 /// They come back.
-pub(crate) fn unname_roots<N: LotName<Nothing>>(
+pub(crate) fn unname_roots<N: LotName<Tally>>(
     roots: &mut Roots,
-    mut named: Vec<NamedRoot<Nothing, N>>,
+    mut named: Vec<NamedRoot<Tally, N>>,
 )
     requires room { (vec_len roots.old ≡ 0) × (3 ≤ vec_capacity roots.old) }
     requires named { Appends root_view 3 [] named.items }
@@ -145,7 +140,7 @@ pub(crate) fn unname_roots<N: LotName<Nothing>>(
 }
 
 /// Ends the words, whose rights are back, and counts the values that they give back.
-pub(crate) fn close_words<N: LotName<Nothing>>(words: Words, passes: Passes, roots: Roots) -> usize
+pub(crate) fn close_words<N: LotName<Tally>>(words: Words, passes: Passes, roots: Roots) -> usize
     requires named { words.table ≡ N.opening.locks }
     requires size { words.size ≡ size_of N.locks N.conds }
     requires passes { AreBack N.opening.locks passes.items }

@@ -7,12 +7,13 @@ ghost use Rattle.lot_waits.specs.Ledger.{AreTallied, AreZeros};
 ghost use Rattle.lot_waits.specs.Notifying.{NotifiesAll, HasTaken};
 ghost use Rattle.base_trials.specs.Calm.{IsCalm};
 ghost use Rattle.base_trials.specs.Opened.{AreDealt, AreRootsBack, IsUntouched, size_of};
-ghost use Rattle.base_trials.specs.Waits.{IsSmall};
+ghost use Rattle.base_trials.specs.Waits.{IsSmall, IsSmallLot};
 
 use crate::kinds::sweeps::take_all;
 use crate::kinds::tables::{
-    EARLY, Nothing, OneTable, Pass, Passes, Roots, Words, close_words, deal, gather,
+    EARLY, OneTable, Pass, Passes, Roots, Words, close_words, deal, gather,
 };
+use crate::rights::tally::Tally;
 use lot_locks::{get, let_go};
 use lot_park::{AtOnce, BeforeSleep, ParkingLot};
 use lot_scheme::LotName;
@@ -27,12 +28,12 @@ use std::sync::Wait;
 pub(crate) type Lot<N> = ParkingLot<OneTable<N>>;
 
 /// The pass of a thread between two calls, with what is kept of its counts. Contracts see what it has counted.
-pub(crate) struct CountedPass<N: LotName<Nothing>> {
+pub(crate) struct CountedPass<N: LotName<Tally>> {
     pass: Pass<N>,
     tallies: Box<Tallies>,
 }
 
-impl<N: LotName<Nothing>> Model for CountedPass<N> {
+impl<N: LotName<Tally>> Model for CountedPass<N> {
     ghost use Rattle.lot_waits.specs.Counts.{CountsView, AreKept, counts_in};
     ghost use Rattle.base_trials.specs.Calm.{IsCalm};
 
@@ -50,14 +51,13 @@ pub(crate) trait BeforeSweep {
 }
 
 // Notifies all in the steps of such a notification, so that the action can come between them.
-fn sweep_after<N: LotName<Nothing> + Send, R: Wait, B: BeforeSweep>(
+fn sweep_after<N: LotName<Tally> + Send, R: Wait, B: BeforeSweep>(
     rt: &R,
     lot: &Lot<N>,
     pass: Pass<N>,
     between: &B,
 ) -> (Pass<N>, usize)
-    requires small { IsSmall N.locks N.conds N.first_sem }
-    requires sizes { lot.now.keys ≡ 3 }
+    requires small { IsSmallLot 3 N.locks N.conds N.first_sem lot.now.threads lot.now.keys }
     requires idle { IsIdle pass.own }
     ensures pass { NotifiesAll pass 2 result.1 result.0 }
     ensures taken { HasTaken pass 2 result.1 result.0 }
@@ -100,14 +100,14 @@ impl Room {
 }
 
 /// The three threads of a lot, which have counted nothing yet.
-pub(crate) struct Three<N: LotName<Nothing>> {
+pub(crate) struct Three<N: LotName<Tally>> {
     pub(crate) zero: CountedPass<N>,
     pub(crate) one: CountedPass<N>,
     pub(crate) two: CountedPass<N>,
     ghost threads: { (zero.thread ≡ 0) × (one.thread ≡ 1) × (two.thread ≡ 2) },
 }
 
-fn fresh<N: LotName<Nothing>>(pass: Pass<N>, tallies: Box<Tallies>) -> CountedPass<N>
+fn fresh<N: LotName<Tally>>(pass: Pass<N>, tallies: Box<Tallies>) -> CountedPass<N>
     requires fresh { IsUntouched (N.locks + N.conds) pass.thread pass }
     requires none { AreZeros N.conds tallies.value }
     ensures { result.thread ≡ pass.thread }
@@ -116,7 +116,7 @@ fn fresh<N: LotName<Nothing>>(pass: Pass<N>, tallies: Box<Tallies>) -> CountedPa
 }
 
 /// The waiters of the three threads, and the sums.
-pub(crate) fn deal_waiters<N: LotName<Nothing>>(
+pub(crate) fn deal_waiters<N: LotName<Tally>>(
     passes: &mut Passes,
     room: Room,
 ) -> (Three<N>, Tallies)
@@ -134,7 +134,7 @@ pub(crate) fn deal_waiters<N: LotName<Nothing>>(
 }
 
 // Adds to the sums what is kept of the waiter's counts.
-fn added<N: LotName<Nothing>>(sums: &mut Tallies, waiter: CountedPass<N>) -> Pass<N>
+fn added<N: LotName<Tally>>(sums: &mut Tallies, waiter: CountedPass<N>) -> Pass<N>
     requires { (waiters : List CountsView) × AreTallied N.locks N.conds waiters sums.old }
     ensures calm { IsCalm waiter.thread result }
     ensures sums { (waiters : List CountsView) → AreTallied N.locks N.conds waiters sums.old
@@ -146,7 +146,7 @@ fn added<N: LotName<Nothing>>(sums: &mut Tallies, waiter: CountedPass<N>) -> Pas
 }
 
 /// Ends the words, whose rights come back, and answers the ledger of their conditions.
-pub(crate) fn settle<N: LotName<Nothing>>(
+pub(crate) fn settle<N: LotName<Tally>>(
     words: Words,
     mut passes: Passes,
     roots: Roots,
@@ -168,7 +168,7 @@ pub(crate) fn settle<N: LotName<Nothing>>(
     ledger_of(sums)
 }
 
-impl<N: LotName<Nothing> + Send> CountedPass<N> {
+impl<N: LotName<Tally> + Send> CountedPass<N> {
     /// Gets the lock, waits on the condition, and lets the lock go again.
     pub(crate) fn wait<R: Wait, B: BeforeSleep>(
         self,
@@ -177,8 +177,7 @@ impl<N: LotName<Nothing> + Send> CountedPass<N> {
         lock: usize,
         before: &B,
     ) -> CountedPass<N>
-        requires small { IsSmall N.locks N.conds N.first_sem }
-        requires sizes { (lot.now.threads ≡ 3) × (lot.now.keys ≡ 3) }
+        requires small { IsSmallLot 3 N.locks N.conds N.first_sem lot.now.threads lot.now.keys }
         requires lock { lock < 2 }
         requires thread { self.thread < 3 }
         ensures { result ≡ one_wait_more self 2 }
@@ -203,8 +202,7 @@ impl<N: LotName<Nothing> + Send> CountedPass<N> {
 
     /// Whether it took one.
     pub(crate) fn notify_one<R: Wait>(self, rt: &R, lot: &Lot<N>) -> (CountedPass<N>, bool)
-        requires small { IsSmall N.locks N.conds N.first_sem }
-        requires sizes { lot.now.keys ≡ 3 }
+        requires small { IsSmallLot 3 N.locks N.conds N.first_sem lot.now.threads lot.now.keys }
         ensures { MatchBool result.1 (result.0 ≡ called_more self 2 1) (result.0 ≡ self) }
     {
         let CountedPass { pass, tallies } = self;
@@ -219,8 +217,7 @@ impl<N: LotName<Nothing> + Send> CountedPass<N> {
 
     /// How many it took.
     pub(crate) fn notify_all<R: Wait>(self, rt: &R, lot: &Lot<N>) -> (CountedPass<N>, usize)
-        requires small { IsSmall N.locks N.conds N.first_sem }
-        requires sizes { lot.now.keys ≡ 3 }
+        requires small { IsSmallLot 3 N.locks N.conds N.first_sem lot.now.threads lot.now.keys }
         ensures { result.0 ≡ called_more self 2 result.1 }
     {
         let CountedPass { pass, tallies } = self;
@@ -236,8 +233,7 @@ impl<N: LotName<Nothing> + Send> CountedPass<N> {
         lot: &Lot<N>,
         between: &B,
     ) -> (CountedPass<N>, usize)
-        requires small { IsSmall N.locks N.conds N.first_sem }
-        requires sizes { lot.now.keys ≡ 3 }
+        requires small { IsSmallLot 3 N.locks N.conds N.first_sem lot.now.threads lot.now.keys }
         ensures { result.0 ≡ called_more self 2 result.1 }
     {
         let CountedPass { pass, tallies } = self;

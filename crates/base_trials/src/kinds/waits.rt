@@ -2,14 +2,15 @@
 ghost use Rattle.std.specs.Prelude.{◌≡◌, ◌<◌, None, [], IsSomeAnd};
 ghost use Rattle.lot_waits.specs.Counts.{called_more, one_wait_more};
 ghost use Rattle.base_trials.specs.Opened.{AreDealt, AreFreshRoots, size_of};
-ghost use Rattle.base_trials.specs.Waits.{EndsThere, IsSmall};
+ghost use Rattle.base_trials.specs.Waits.{EndsThere, IsSmall, IsSmallLot};
 
-use crate::asserts::{failed, is_so};
+use crate::asserts::{failed, is_so, opened_lot};
 use crate::kinds::asserts::{count_is, is_not, ledger_is};
 use crate::kinds::tables::{
-    EARLY, Nothing, Passes, Roots, THREADS, Words, name_roots, open_words, unname_roots,
+    EARLY, Passes, Roots, THREADS, Words, name_roots, open_words, unname_roots,
 };
 use crate::kinds::waiters::{BeforeSweep, CountedPass, Lot, Room, Three, deal_waiters, settle};
+use crate::rights::tally::Tally;
 use lot_park::{BeforeSleep, ParkingLot, Scheme, Token, UnparkResult};
 use lot_scheme::{LotName, LotScheme};
 use lot_waits::Ledger;
@@ -112,14 +113,13 @@ fn give_back<T>(here: &mut Option<T>, lent: T)
 }
 
 // Waits with the lock 0, and is taken from the line before it sleeps.
-fn wait_until_taken<N: LotName<Nothing> + Send + Sync, R: Wait + Abort>(
+fn wait_until_taken<N: LotName<Tally> + Send + Sync, R: Wait + Abort>(
     rt: &R,
     lot: &Lot<N>,
     here: &mut Option<CountedPass<N>>,
     signs: &Signs,
 )
-    requires small { IsSmall N.locks N.conds N.first_sem }
-    requires sizes { (lot.now.threads ≡ 3) × (lot.now.keys ≡ 3) }
+    requires small { IsSmallLot 3 N.locks N.conds N.first_sem lot.now.threads lot.now.keys }
     requires thread { IsSomeAnd here.old (λ p. p.thread < 3) }
     ensures { EndsThere (λ p. one_wait_more p 2) here.old here.new }
 {
@@ -128,14 +128,13 @@ fn wait_until_taken<N: LotName<Nothing> + Send + Sync, R: Wait + Abort>(
 }
 
 // Takes the thread that is in the line, by a notification of one or of all.
-fn take_it<N: LotName<Nothing> + Send + Sync, R: Wait + Abort>(
+fn take_it<N: LotName<Tally> + Send + Sync, R: Wait + Abort>(
     rt: &R,
     lot: &Lot<N>,
     one: CountedPass<N>,
     all: bool,
 ) -> CountedPass<N>
-    requires small { IsSmall N.locks N.conds N.first_sem }
-    requires sizes { lot.now.keys ≡ 3 }
+    requires small { IsSmallLot 3 N.locks N.conds N.first_sem lot.now.threads lot.now.keys }
     ensures { result ≡ called_more one 2 1 }
 {
     if all {
@@ -150,15 +149,14 @@ fn take_it<N: LotName<Nothing> + Send + Sync, R: Wait + Abort>(
 }
 
 // Takes the first once it is in the line, and says so.
-fn take_the_first<N: LotName<Nothing> + Send + Sync, R: Wait + Abort>(
+fn take_the_first<N: LotName<Tally> + Send + Sync, R: Wait + Abort>(
     rt: &R,
     lot: &Lot<N>,
     here: &mut Option<CountedPass<N>>,
     signs: &Signs,
     all: bool,
 )
-    requires small { IsSmall N.locks N.conds N.first_sem }
-    requires sizes { lot.now.keys ≡ 3 }
+    requires small { IsSmallLot 3 N.locks N.conds N.first_sem lot.now.threads lot.now.keys }
     requires lent { IsSomeAnd here.old (λ p. p.thread < 3) }
     ensures { EndsThere (λ p. called_more p 2 1) here.old here.new }
 {
@@ -170,7 +168,7 @@ fn take_the_first<N: LotName<Nothing> + Send + Sync, R: Wait + Abort>(
 }
 
 // Both at once. The places are lent, since a closure can't hold a waiter.
-fn taken_by_the_second<'a, N: LotName<Nothing> + Send + Sync, R: Threads + Wait + Abort + Sync>(
+fn taken_by_the_second<'a, N: LotName<Tally> + Send + Sync, R: Threads + Wait + Abort + Sync>(
     rt: &'a R,
     lot: &'a Lot<N>,
     first: &'a mut Option<CountedPass<N>>,
@@ -178,22 +176,19 @@ fn taken_by_the_second<'a, N: LotName<Nothing> + Send + Sync, R: Threads + Wait 
     signs: &'a Signs,
     all: bool,
 )
-    requires small { IsSmall N.locks N.conds N.first_sem }
-    requires sizes { (lot.now.threads ≡ 3) × (lot.now.keys ≡ 3) }
+    requires small { IsSmallLot 3 N.locks N.conds N.first_sem lot.now.threads lot.now.keys }
     requires first { IsSomeAnd first.old (λ p. p.thread < 3) }
     requires second { IsSomeAnd second.old (λ p. p.thread < 3) }
     ensures first { EndsThere (λ p. one_wait_more p 2) first.old first.new }
     ensures second { EndsThere (λ p. called_more p 2 1) second.old second.new }
 {
     let mut waits = ||
-        requires small { IsSmall N.locks N.conds N.first_sem }
-        requires sizes { (lot.now.threads ≡ 3) × (lot.now.keys ≡ 3) }
+        requires small { IsSmallLot 3 N.locks N.conds N.first_sem lot.now.threads lot.now.keys }
         requires first { IsSomeAnd first.now (λ p. p.thread < 3) }
         ensures { EndsThere (λ p. one_wait_more p 2) first.entry.now first.exit.now }
     { wait_until_taken(rt, lot, first, signs) };
     let mut takes = ||
-        requires small { IsSmall N.locks N.conds N.first_sem }
-        requires sizes { (lot.now.threads ≡ 3) × (lot.now.keys ≡ 3) }
+        requires small { IsSmallLot 3 N.locks N.conds N.first_sem lot.now.threads lot.now.keys }
         requires second { IsSomeAnd second.now (λ p. p.thread < 3) }
         ensures { EndsThere (λ p. called_more p 2 1) second.entry.now second.exit.now }
     { take_the_first(rt, lot, second, signs, all) };
@@ -201,15 +196,14 @@ fn taken_by_the_second<'a, N: LotName<Nothing> + Send + Sync, R: Threads + Wait 
 }
 
 // The first waits, and the second takes it before it sleeps: it does not sleep.
-fn taken_before_sleep<N: LotName<Nothing> + Send + Sync, R: Threads + Wait + Abort + Sync>(
+fn taken_before_sleep<N: LotName<Tally> + Send + Sync, R: Threads + Wait + Abort + Sync>(
     rt: &R,
     lot: &Lot<N>,
     zero: CountedPass<N>,
     one: CountedPass<N>,
     all: bool,
 ) -> (CountedPass<N>, CountedPass<N>)
-    requires small { IsSmall N.locks N.conds N.first_sem }
-    requires sizes { (lot.now.threads ≡ 3) × (lot.now.keys ≡ 3) }
+    requires small { IsSmallLot 3 N.locks N.conds N.first_sem lot.now.threads lot.now.keys }
     requires threads { (zero.thread ≡ 0) × (one.thread ≡ 1) }
     ensures zero { result.0 ≡ one_wait_more zero 2 }
     ensures one { result.1 ≡ called_more one 2 1 }
@@ -224,14 +218,13 @@ fn taken_before_sleep<N: LotName<Nothing> + Send + Sync, R: Threads + Wait + Abo
 }
 
 // The thread is taken from the line before it sleeps, by a notification of one: it does not sleep. Then nobody waits.
-fn notified_before_sleep<N: LotName<Nothing> + Send + Sync, R: Threads + Wait + Abort + Sync>(
+fn notified_before_sleep<N: LotName<Tally> + Send + Sync, R: Threads + Wait + Abort + Sync>(
     rt: &R,
     lot: &Lot<N>,
     zero: CountedPass<N>,
     one: CountedPass<N>,
 ) -> (CountedPass<N>, CountedPass<N>)
-    requires small { IsSmall N.locks N.conds N.first_sem }
-    requires sizes { (lot.now.threads ≡ 3) × (lot.now.keys ≡ 3) }
+    requires small { IsSmallLot 3 N.locks N.conds N.first_sem lot.now.threads lot.now.keys }
     requires threads { (zero.thread ≡ 0) × (one.thread ≡ 1) }
     ensures zero { result.0 ≡ one_wait_more zero 2 }
     ensures one { result.1 ≡ called_more one 2 1 }
@@ -243,13 +236,12 @@ fn notified_before_sleep<N: LotName<Nothing> + Send + Sync, R: Threads + Wait + 
 }
 
 // A notification of all finds nobody.
-fn notify_nobody<N: LotName<Nothing> + Send + Sync, R: Wait + Abort>(
+fn notify_nobody<N: LotName<Tally> + Send + Sync, R: Wait + Abort>(
     rt: &R,
     lot: &Lot<N>,
     one: CountedPass<N>,
 ) -> CountedPass<N>
-    requires small { IsSmall N.locks N.conds N.first_sem }
-    requires sizes { lot.now.keys ≡ 3 }
+    requires small { IsSmallLot 3 N.locks N.conds N.first_sem lot.now.threads lot.now.keys }
     ensures { result ≡ one }
 {
     let (one, count) = one.notify_all(rt, lot);
@@ -258,14 +250,13 @@ fn notify_nobody<N: LotName<Nothing> + Send + Sync, R: Wait + Abort>(
 }
 
 // Takes both who wait, and the flag that the late one set stays. The next notification finds nobody, and clears it.
-fn take_both<N: LotName<Nothing> + Send + Sync, R: Wait + Abort>(
+fn take_both<N: LotName<Tally> + Send + Sync, R: Wait + Abort>(
     rt: &R,
     lot: &Lot<N>,
     one: CountedPass<N>,
     signs: &Signs,
 ) -> CountedPass<N>
-    requires small { IsSmall N.locks N.conds N.first_sem }
-    requires sizes { lot.now.keys ≡ 3 }
+    requires small { IsSmallLot 3 N.locks N.conds N.first_sem lot.now.threads lot.now.keys }
     ensures { result ≡ called_more one 2 2 }
 {
     let (one, count) = one.notify_all_after(rt, lot, &Between { rt, signs });
@@ -280,14 +271,13 @@ fn take_both<N: LotName<Nothing> + Send + Sync, R: Wait + Abort>(
 }
 
 // The second takes the first once it is in the line, and the late one with it.
-fn take_the_late_too<N: LotName<Nothing> + Send + Sync, R: Wait + Abort>(
+fn take_the_late_too<N: LotName<Tally> + Send + Sync, R: Wait + Abort>(
     rt: &R,
     lot: &Lot<N>,
     here: &mut Option<CountedPass<N>>,
     signs: &Signs,
 )
-    requires small { IsSmall N.locks N.conds N.first_sem }
-    requires sizes { lot.now.keys ≡ 3 }
+    requires small { IsSmallLot 3 N.locks N.conds N.first_sem lot.now.threads lot.now.keys }
     requires lent { IsSomeAnd here.old (λ p. p.thread < 3) }
     ensures { EndsThere (λ p. called_more p 2 2) here.old here.new }
 {
@@ -299,14 +289,13 @@ fn take_the_late_too<N: LotName<Nothing> + Send + Sync, R: Wait + Abort>(
 }
 
 // Waits with the lock 1 once the flag was cleared, and says so when it is in the line.
-fn wait_late<N: LotName<Nothing> + Send + Sync, R: Wait + Abort>(
+fn wait_late<N: LotName<Tally> + Send + Sync, R: Wait + Abort>(
     rt: &R,
     lot: &Lot<N>,
     here: &mut Option<CountedPass<N>>,
     signs: &Signs,
 )
-    requires small { IsSmall N.locks N.conds N.first_sem }
-    requires sizes { (lot.now.threads ≡ 3) × (lot.now.keys ≡ 3) }
+    requires small { IsSmallLot 3 N.locks N.conds N.first_sem lot.now.threads lot.now.keys }
     requires thread { IsSomeAnd here.old (λ p. p.thread < 3) }
     ensures { EndsThere (λ p. one_wait_more p 2) here.old here.new }
 {
@@ -316,29 +305,26 @@ fn wait_late<N: LotName<Nothing> + Send + Sync, R: Wait + Abort>(
 }
 
 // Two of the three: the second, which takes, and the late one.
-fn take_and_come<'a, N: LotName<Nothing> + Send + Sync, R: Threads + Wait + Abort + Sync>(
+fn take_and_come<'a, N: LotName<Tally> + Send + Sync, R: Threads + Wait + Abort + Sync>(
     rt: &'a R,
     lot: &'a Lot<N>,
     second: &'a mut Option<CountedPass<N>>,
     late: &'a mut Option<CountedPass<N>>,
     signs: &'a Signs,
 )
-    requires small { IsSmall N.locks N.conds N.first_sem }
-    requires sizes { (lot.now.threads ≡ 3) × (lot.now.keys ≡ 3) }
+    requires small { IsSmallLot 3 N.locks N.conds N.first_sem lot.now.threads lot.now.keys }
     requires second { IsSomeAnd second.old (λ p. p.thread < 3) }
     requires late { IsSomeAnd late.old (λ p. p.thread < 3) }
     ensures second { EndsThere (λ p. called_more p 2 2) second.old second.new }
     ensures late { EndsThere (λ p. one_wait_more p 2) late.old late.new }
 {
     let mut takes = ||
-        requires small { IsSmall N.locks N.conds N.first_sem }
-        requires sizes { (lot.now.threads ≡ 3) × (lot.now.keys ≡ 3) }
+        requires small { IsSmallLot 3 N.locks N.conds N.first_sem lot.now.threads lot.now.keys }
         requires second { IsSomeAnd second.now (λ p. p.thread < 3) }
         ensures { EndsThere (λ p. called_more p 2 2) second.entry.now second.exit.now }
     { take_the_late_too(rt, lot, second, signs) };
     let mut comes = ||
-        requires small { IsSmall N.locks N.conds N.first_sem }
-        requires sizes { (lot.now.threads ≡ 3) × (lot.now.keys ≡ 3) }
+        requires small { IsSmallLot 3 N.locks N.conds N.first_sem lot.now.threads lot.now.keys }
         requires late { IsSomeAnd late.now (λ p. p.thread < 3) }
         ensures { EndsThere (λ p. one_wait_more p 2) late.entry.now late.exit.now }
     { wait_late(rt, lot, late, signs) };
@@ -346,14 +332,13 @@ fn take_and_come<'a, N: LotName<Nothing> + Send + Sync, R: Threads + Wait + Abor
 }
 
 // The second and the late one, which were lent.
-fn take_and_come_lent<N: LotName<Nothing> + Send + Sync, R: Threads + Wait + Abort + Sync>(
+fn take_and_come_lent<N: LotName<Tally> + Send + Sync, R: Threads + Wait + Abort + Sync>(
     rt: &R,
     lot: &Lot<N>,
     here: &mut Option<(CountedPass<N>, CountedPass<N>)>,
     signs: &Signs,
 )
-    requires small { IsSmall N.locks N.conds N.first_sem }
-    requires sizes { (lot.now.threads ≡ 3) × (lot.now.keys ≡ 3) }
+    requires small { IsSmallLot 3 N.locks N.conds N.first_sem lot.now.threads lot.now.keys }
     requires lent { IsSomeAnd here.old (λ p. (p.0.thread < 3) × (p.1.thread < 3)) }
     ensures { EndsThere (λ p. (called_more p.0 2 2, one_wait_more p.1 2)) here.old here.new }
 {
@@ -365,29 +350,26 @@ fn take_and_come_lent<N: LotName<Nothing> + Send + Sync, R: Threads + Wait + Abo
 }
 
 // All three at once.
-fn side_by_side<'a, N: LotName<Nothing> + Send + Sync, R: Threads + Wait + Abort + Sync>(
+fn side_by_side<'a, N: LotName<Tally> + Send + Sync, R: Threads + Wait + Abort + Sync>(
     rt: &'a R,
     lot: &'a Lot<N>,
     first: &'a mut Option<CountedPass<N>>,
     others: &'a mut Option<(CountedPass<N>, CountedPass<N>)>,
     signs: &'a Signs,
 )
-    requires small { IsSmall N.locks N.conds N.first_sem }
-    requires sizes { (lot.now.threads ≡ 3) × (lot.now.keys ≡ 3) }
+    requires small { IsSmallLot 3 N.locks N.conds N.first_sem lot.now.threads lot.now.keys }
     requires first { IsSomeAnd first.old (λ p. p.thread < 3) }
     requires others { IsSomeAnd others.old (λ p. (p.0.thread < 3) × (p.1.thread < 3)) }
     ensures first { EndsThere (λ p. one_wait_more p 2) first.old first.new }
     ensures others { EndsThere (λ p. (called_more p.0 2 2, one_wait_more p.1 2)) others.old others.new }
 {
     let mut waits = ||
-        requires small { IsSmall N.locks N.conds N.first_sem }
-        requires sizes { (lot.now.threads ≡ 3) × (lot.now.keys ≡ 3) }
+        requires small { IsSmallLot 3 N.locks N.conds N.first_sem lot.now.threads lot.now.keys }
         requires first { IsSomeAnd first.now (λ p. p.thread < 3) }
         ensures { EndsThere (λ p. one_wait_more p 2) first.entry.now first.exit.now }
     { wait_until_taken(rt, lot, first, signs) };
     let mut rest = ||
-        requires small { IsSmall N.locks N.conds N.first_sem }
-        requires sizes { (lot.now.threads ≡ 3) × (lot.now.keys ≡ 3) }
+        requires small { IsSmallLot 3 N.locks N.conds N.first_sem lot.now.threads lot.now.keys }
         requires others { IsSomeAnd others.now (λ p. (p.0.thread < 3) × (p.1.thread < 3)) }
         ensures { EndsThere (λ p. (called_more p.0 2 2, one_wait_more p.1 2)) others.entry.now others.exit.now }
     { take_and_come_lent(rt, lot, others, signs) };
@@ -397,7 +379,7 @@ fn side_by_side<'a, N: LotName<Nothing> + Send + Sync, R: Threads + Wait + Abort
 // A thread begins to wait after the flag was cleared and before the line is taken: it is taken with the one that waited
 // before.
 fn taken_after_the_flag_was_cleared<
-    N: LotName<Nothing> + Send + Sync,
+    N: LotName<Tally> + Send + Sync,
     R: Threads + Wait + Abort + Sync,
 >(
     rt: &R,
@@ -406,8 +388,7 @@ fn taken_after_the_flag_was_cleared<
     one: CountedPass<N>,
     two: CountedPass<N>,
 ) -> (CountedPass<N>, CountedPass<N>, CountedPass<N>)
-    requires small { IsSmall N.locks N.conds N.first_sem }
-    requires sizes { (lot.now.threads ≡ 3) × (lot.now.keys ≡ 3) }
+    requires small { IsSmallLot 3 N.locks N.conds N.first_sem lot.now.threads lot.now.keys }
     requires threads { (zero.thread ≡ 0) × (one.thread ≡ 1) × (two.thread ≡ 2) }
     ensures zero { result.0 ≡ one_wait_more zero 2 }
     ensures one { result.1 ≡ called_more one 2 2 }
@@ -451,13 +432,12 @@ fn under_the_lock<S: Scheme, X, F: FnOnce(X) -> X, R: Wait + Abort>(
 }
 
 // A notification while the bucket of the condition is locked: nobody waits, so it locks none.
-fn notifies_under_the_lock<N: LotName<Nothing> + Send + Sync, R: Wait + Abort>(
+fn notifies_under_the_lock<N: LotName<Tally> + Send + Sync, R: Wait + Abort>(
     rt: &R,
     lot: &Lot<N>,
     one: CountedPass<N>,
 ) -> CountedPass<N>
-    requires small { IsSmall N.locks N.conds N.first_sem }
-    requires sizes { lot.now.keys ≡ 3 }
+    requires small { IsSmallLot 3 N.locks N.conds N.first_sem lot.now.threads lot.now.keys }
     ensures { result ≡ one }
 {
     under_the_lock(
@@ -465,8 +445,7 @@ fn notifies_under_the_lock<N: LotName<Nothing> + Send + Sync, R: Wait + Abort>(
         lot,
         one,
         |one: CountedPass<N>| -> CountedPass<N>
-            requires small { IsSmall N.locks N.conds N.first_sem }
-            requires sizes { lot.now.keys ≡ 3 }
+            requires small { IsSmallLot 3 N.locks N.conds N.first_sem lot.now.threads lot.now.keys }
             ensures { result ≡ one }
         {
             let (one, took) = one.notify_one(rt, lot);
@@ -477,13 +456,12 @@ fn notifies_under_the_lock<N: LotName<Nothing> + Send + Sync, R: Wait + Abort>(
 }
 
 // Plays all schedules.
-fn played<N: LotName<Nothing> + Send + Sync, R: Threads + Wait + Abort + Sync>(
+fn played<N: LotName<Tally> + Send + Sync, R: Threads + Wait + Abort + Sync>(
     rt: &R,
     lot: &Lot<N>,
     three: Three<N>,
 ) -> Three<N>
-    requires small { IsSmall N.locks N.conds N.first_sem }
-    requires sizes { (lot.now.threads ≡ 3) × (lot.now.keys ≡ 3) }
+    requires small { IsSmallLot 3 N.locks N.conds N.first_sem lot.now.threads lot.now.keys }
 {
     let Three { zero, one, two } = three;
     let one = notifies_under_the_lock(rt, lot, one);
@@ -494,7 +472,7 @@ fn played<N: LotName<Nothing> + Send + Sync, R: Threads + Wait + Abort + Sync>(
 }
 
 // Plays on a lot, and closes it: what the ledger then says.
-fn play<N: LotName<Nothing> + Send + Sync, R: Threads + Wait + Abort + Sync>(
+fn play<N: LotName<Tally> + Send + Sync, R: Threads + Wait + Abort + Sync>(
     rt: &R,
     alloc: Global,
     words: Words,
@@ -514,15 +492,7 @@ fn play<N: LotName<Nothing> + Send + Sync, R: Threads + Wait + Abort + Sync>(
     let Ok(named) = name_roots::<N>(alloc, &mut roots) else {
         failed(rt, "no memory")
     };
-    let (lot, mut back) = match ParkingLot::open(
-        alloc,
-        THREADS,
-        named,
-        LotScheme::new(words, 2, 3),
-    ) {
-        Ok(opened) => opened,
-        Err(_refused) => failed(rt, "no memory"),
-    };
+    let (lot, mut back) = opened_lot(rt, alloc, THREADS, named, LotScheme::new(words, 2, 3));
     let three = played(rt, &lot, three);
     let words = lot.close(rt, &mut back).into_words();
     unname_roots(&mut roots, back);

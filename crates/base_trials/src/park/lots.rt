@@ -8,7 +8,7 @@ use super::letters::{
     nothing_told, stays_untold, taken,
 };
 use super::rights::{EARLY, Right, idle_rights, joined, passed, passed_all, passed_first};
-use crate::asserts::{equal, failed, is_so, room_for};
+use crate::asserts::{equal, failed, is_so, opened_lot};
 use lot_park::{Grown, Parked, ParkingLot, Token, UnparkResult};
 use std::alloc::Global;
 use std::process::Abort;
@@ -27,13 +27,9 @@ fn open(rt: &impl Abort, alloc: Global) -> ParkingLot<Letters>
     ensures keys { result.keys ≡ KEYS }
 {
     let rights = idle_rights(alloc, KEYS).expect(rt, "memory");
-    match ParkingLot::open(alloc, THREADS, rights, no_letters()) {
-        Ok((lot, room)) => {
-            room.destroy_empty();
-            lot
-        }
-        Err(_refused) => failed(rt, "memory"),
-    }
+    let (lot, room) = opened_lot(rt, alloc, THREADS, rights, no_letters());
+    room.destroy_empty();
+    lot
 }
 
 // Parks on the key, where `valid` says so.
@@ -124,7 +120,7 @@ fn unpark_first<R: Wait + Abort>(
 fn close<R: Wait + Abort>(rt: &R, alloc: Global, lot: ParkingLot<Letters>)
     requires { lot.keys ≡ KEYS }
 {
-    let mut rights = room_for(rt, alloc, KEYS);
+    let mut rights = Vec::with_capacity(alloc, KEYS).expect(rt, "memory");
     let _letters = lot.close(rt, &mut rights);
     equal(rt, rights.len(), KEYS);
     for (key, right) in rights.iter().enumerate() {

@@ -45,8 +45,12 @@ fn is_asleep_within(record: &Record, askings: u64) -> bool {
     false
 }
 
-// Whether a sleeper fell asleep and stayed so without a wake, and ended its sleep after one.
-fn sleeps_and_wakes<R: Threads + Wait + Abort + Sync>(
+// Whether a sleeper of this record fell asleep and stayed so without a wake, and ended its sleep after one.
+fn sleeps_and_wakes<R: Threads + Wait + Abort + Sync>(rt: &R, record: &Record) -> (bool, bool) {
+    sleeps_between(rt, record, &lowered())
+}
+
+fn sleeps_between<R: Threads + Wait + Abort + Sync>(
     rt: &R,
     record: &Record,
     flags: &Flags,
@@ -68,17 +72,13 @@ fn sleeps_and_wakes<R: Threads + Wait + Abort + Sync>(
 
 #[test]
 fn a_sleeper_sleeps(rt: HostRuntime) {
-    let record = Record::new();
-    let flags = lowered();
-    let (slept, _woke) = sleeps_and_wakes(&rt, &record, &flags);
+    let (slept, _woke) = sleeps_and_wakes(&rt, &Record::new());
     is_so(&rt, slept, "it sleeps until it is woken");
 }
 
 #[test]
 fn a_wake_wakes(rt: HostRuntime) {
-    let record = Record::default();
-    let flags = lowered();
-    let (_slept, woke) = sleeps_and_wakes(&rt, &record, &flags);
+    let (_slept, woke) = sleeps_and_wakes(&rt, &Record::default());
     is_so(&rt, woke, "the wake ends its sleep");
 }
 

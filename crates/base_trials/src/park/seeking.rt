@@ -4,7 +4,7 @@ ghost use Rattle.std.specs.Prelude.{◌≡◌, ◌<◌};
 use super::askings::{ASKINGS, is_within};
 use super::letters::{Letters, Pass, THREADS, no_letters};
 use super::rights::{Right, idle_rights};
-use crate::asserts::{equal, failed, is_so};
+use crate::asserts::{equal, is_so, opened_lot};
 use lot_park::{AtOnce, ParkingLot, Token};
 use lot_seeking::{Look, Seeking, Sought, get_or_park};
 use std::alloc::Global;
@@ -15,78 +15,11 @@ use std::test::*;
 use std::thread;
 use std::thread::Threads;
 
-// What is sought. It has no value.
-struct Prizes;
-
-// Nothing is ever left until the thread lines up: then it gets it.
-impl Sought<Prizes> for Letters {
-    ghost use Rattle.std.specs.Prelude.{◌≡◌};
-
-    ghost has = { λ s key. Unit {0} };
-
-    ghost seeks = { λ before key far now. now ≡ before };
-
-    ghost sleeps = { λ before key asleep. ⊥ };
-
-    ghost changed = { λ before key now. ⊥ };
-
-    ghost marked = { λ before key now. ⊥ };
-
-    fn look_at(&self, _key: usize) -> Look {
-        self.note_a_look();
-        Look::Taken
-    }
-
-    fn take(&self, pass: Pass, _key: usize) -> (Pass, bool) {
-        (pass, false)
-    }
-
-    fn take_free(&self, pass: Pass, _key: usize) -> (Pass, bool) {
-        self.note_a_try();
-        (pass, false)
-    }
-
-    fn line_up(&self, pass: Pass, _key: usize, _is_marked: bool) -> (Pass, Seeking) {
-        (pass, Seeking::Got)
-    }
-
-    fn queue(&self, pass: Pass, root: Right, _key: usize) -> (Pass, Right, bool) {
-        (pass, root, false)
-    }
-
-    fn is_handed(_token: Token) -> bool {
-        false
-    }
-}
-
-// How often a thread tries, and how often it looks, before it lines up that has seen this of the word and seeks alone.
-// It seeks twice.
-fn alone<R: Wait + Abort>(rt: &R, alloc: Global, first: Look) -> (u64, u64) {
-    let rights = idle_rights(alloc, 1).expect(rt, "memory");
-    let (lot, mut room) = match ParkingLot::open(alloc, THREADS, rights, no_letters()) {
-        Ok(opened) => opened,
-        Err(_refused) => failed(rt, "memory"),
-    };
-    let pass = Pass { thread: 0 };
-    let pass = get_or_park::<Letters, Prizes, R, AtOnce>(rt, &lot, pass, 0, first, &AtOnce);
-    let _pass = get_or_park::<Letters, Prizes, R, AtOnce>(rt, &lot, pass, 0, first, &AtOnce);
-    let letters = lot.close(rt, &mut room);
-    (letters.tries(), letters.looks_at_words())
-}
-
-// A thread that seeks alone tries twice, and looks once before its 40 yields, after each of the first four, and then
-// after every second: 23 times. So it does again when it seeks again, since it is counted no more. Where it has seen
-// that somebody is parked, it lines up at once.
-#[test]
-fn a_thread_looks_before_it_lines_up(rt: HostRuntime) {
-    equal(&rt, alone(&rt, rt.alloc(), Look::Taken), (4, 46));
-    equal(&rt, alone(&rt, rt.alloc(), Look::Parked), (0, 0));
-}
-
-// What two threads seek that line up together: thread 1 stays awake in line until thread 0 has lined up. It has no
-// value.
+// What threads seek. It has no value.
 struct Meetings;
 
+// Nothing is ever left until the thread lines up: then it gets it. Two threads line up together: thread 1 stays awake
+// in line until thread 0 has lined up.
 impl Sought<Meetings> for Letters {
     ghost use Rattle.std.specs.Prelude.{◌≡◌};
 
@@ -134,6 +67,27 @@ impl Sought<Meetings> for Letters {
     }
 }
 
+// How often a thread tries, and how often it looks, before it lines up that has seen this of the word and seeks alone.
+// It seeks twice.
+fn alone<R: Wait + Abort>(rt: &R, alloc: Global, first: Look) -> (u64, u64) {
+    let rights = idle_rights(alloc, 1).expect(rt, "memory");
+    let (lot, mut room) = opened_lot(rt, alloc, THREADS, rights, no_letters());
+    let pass = Pass { thread: 0 };
+    let pass = get_or_park::<Letters, Meetings, R, AtOnce>(rt, &lot, pass, 0, first, &AtOnce);
+    let _pass = get_or_park::<Letters, Meetings, R, AtOnce>(rt, &lot, pass, 0, first, &AtOnce);
+    let letters = lot.close(rt, &mut room);
+    (letters.tries(), letters.looks_at_words())
+}
+
+// A thread that seeks alone tries twice, and looks once before its 40 yields, after each of the first four, and then
+// after every second: 23 times. So it does again when it seeks again, since it is counted no more. Where it has seen
+// that somebody is parked, it lines up at once.
+#[test]
+fn a_thread_looks_before_it_lines_up(rt: HostRuntime) {
+    equal(&rt, alone(&rt, rt.alloc(), Look::Taken), (4, 46));
+    equal(&rt, alone(&rt, rt.alloc(), Look::Parked), (0, 0));
+}
+
 fn meets<R: Wait>(rt: &R, lot: &ParkingLot<Letters>, thread: usize, first: Look)
     requires lot { (lot.now.threads ≡ THREADS) × (lot.now.keys ≡ 1) }
     requires thread { thread < THREADS }
@@ -171,10 +125,7 @@ fn tries_and_looks<R: Threads + Wait + Abort + Sync>(
 #[test]
 fn a_thread_among_others_tries_after_its_yields(rt: HostRuntime) {
     let rights = idle_rights(rt.alloc(), 1).expect(&rt, "memory");
-    let (lot, mut room) = match ParkingLot::open(rt.alloc(), THREADS, rights, no_letters()) {
-        Ok(opened) => opened,
-        Err(_refused) => failed(&rt, "memory"),
-    };
+    let (lot, mut room) = opened_lot(&rt, rt.alloc(), THREADS, rights, no_letters());
     equal(&rt, tries_and_looks(&rt, &lot), (33, 33));
     let _letters = lot.close(&rt, &mut room);
 }

@@ -5,7 +5,7 @@ ghost use Rattle.lot_bucket.specs.Settled.{IsReady, Stays};
 
 use super::askings::{ASKINGS, is_within};
 use super::rights::{EARLY, Right, idle_rights, joined};
-use crate::asserts::{equal, equal_in, failed, is_so, room_for};
+use crate::asserts::{equal, equal_in, failed, is_so};
 use lot_bucket::{Bucket, Root};
 use lot_table::{Grown, MOST_THREADS, Table, grown_size};
 use std::alloc::Global;
@@ -46,7 +46,7 @@ fn ensured<R: Wait + Abort>(rt: &R, table: &Table<Right>, threads: usize) -> Gro
 fn end<R: Wait + Abort>(rt: &R, alloc: Global, table: Table<Right>)
     requires { table.keys ≡ KEYS }
 {
-    let mut rights = room_for(rt, alloc, KEYS);
+    let mut rights = Vec::with_capacity(alloc, KEYS).expect(rt, "memory");
     table.close(rt, &mut rights);
     equal(rt, rights.len(), KEYS);
     for (key, right) in rights.iter().enumerate() {

@@ -5,6 +5,7 @@ ghost use Rattle.lot_conds.specs.Calls.{called_more, one_wait_more};
 ghost use Rattle.base_trials.specs.CondSchedules.{IsFree, IsEmpty};
 
 use crate::asserts::{bits_are, is_so, letter_is};
+use crate::taking::take_three;
 use lot_conds::{CondPass, CondRoot, CondWords};
 use std::process::Abort;
 use std::test::*;
@@ -144,9 +145,7 @@ fn waits_and_notifications(rt: HostRuntime) -> Result<(), Fail> {
     let Ok((words, mut passes, mut roots)) = CondWords::open(rt.alloc(), 3, 1, 1) else {
         return Err("no memory".into());
     };
-    let two = passes.take_last();
-    let one = passes.take_last();
-    let zero = passes.take_last();
+    let (zero, one, two) = take_three(&mut passes);
     let root = roots.take_last();
     let (zero, one, root) = one_wait(&rt, &words, zero, one, root);
     let (zero, one, root) = late_wait(&rt, &words, zero, one, root);

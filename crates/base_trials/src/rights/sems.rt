@@ -12,6 +12,7 @@ ghost use Rattle.lot_sems.specs.Calls.{MayTake};
 ghost use Rattle.lot_sems.specs.Closing.{IsToldTo};
 
 use crate::asserts::{bits_are, is_so, letter_is};
+use crate::taking::take_three;
 use lot_sems::laws::every_run_is_sound;
 use lot_sems::{SemPass, SemRoot, SemWords, Taken};
 use std::process::Abort;
@@ -231,9 +232,7 @@ fn a_permit_goes_round(rt: HostRuntime) -> Result<(), Fail> {
     let Ok((words, mut passes, mut roots)) = SemWords::open(rt.alloc(), 3, 1, permits) else {
         return Err("no memory".into());
     };
-    let two = passes.take_last();
-    let one = passes.take_last();
-    let zero = passes.take_last();
+    let (zero, one, two) = take_three(&mut passes);
     let root = roots.take_last();
     let (zero, one, two, root) = one_permit(&rt, &words, zero, one, two, root);
     let (zero, one, two, root) = two_sleepers(&rt, &words, zero, one, two, root);

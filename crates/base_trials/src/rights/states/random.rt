@@ -1,5 +1,5 @@
 //! Random scripts: after each event the state is sound.
-ghost use Rattle.std.specs.Prelude.{◌<◌, IfSome};
+ghost use Rattle.std.specs.Prelude.{◌<◌, ◌≤◌, IfSome};
 
 use crate::asserts::{equal_in, is_so_in};
 use lot_core::{CoreFault, Event, State};
@@ -35,58 +35,52 @@ fn below(rng: &mut Xoshiro256PlusPlus, bound: u64) -> usize
     (rng.next_u64() % bound) as usize
 }
 
-// Each state has the locks 0 and 1, the conditions 2 and 3 and the semaphores 4 and 5. Thread 0 joins
-// no line, so that some event is always allowed.
+// Each state has the locks 0 and 1, the conditions 2 and 3 and the semaphores 4 and 5. Thread 0 joins no line, so that
+// some event is always allowed.
 fn drawn_event(rng: &mut Xoshiro256PlusPlus, kind: usize) -> Event {
-    let thread = below(rng, THREADS);
+    let any = below(rng, THREADS);
     let sleeper = 1 + below(rng, THREADS - 1);
+    let joins_a_line = matches!(kind, 3 | 6 | 13);
+    let thread = if joins_a_line { sleeper } else { any };
     let more = below(rng, 2) == 0;
+    let key = first_key(kind) + below(rng, 2);
+    event_of(rng, kind, thread, key, more)
+}
+
+// The first of the two keys that events of the kind are on.
+fn first_key(kind: usize) -> usize
+    ensures { result ≤ 4 }
+{
     if kind < COND_KINDS {
-        lock_event(rng, kind, thread, sleeper, more)
+        0
     } else if kind < SEM_KINDS {
-        cond_event(rng, kind, thread, sleeper, more)
+        2
     } else {
-        sem_event(rng, kind, thread, sleeper, more)
+        4
     }
 }
 
-fn lock_event(
+fn event_of(
     rng: &mut Xoshiro256PlusPlus,
     kind: usize,
     thread: usize,
-    sleeper: usize,
+    key: usize,
     more: bool,
 ) -> Event {
-    let key = below(rng, 2);
     match kind {
         0 => Event::Try { thread, key },
         1 => Event::Take { thread, key },
         2 => Event::Mark { thread, key },
-        3 => Event::Park {
-            thread: sleeper,
-            key,
-        },
+        3 => Event::Park { thread, key },
         4 => Event::Free { thread, key },
-        _ => Event::Pass {
+        5 => Event::Pass {
             thread,
             key,
             fair: below(rng, 2) == 0,
             more,
         },
-    }
-}
-
-fn cond_event(
-    rng: &mut Xoshiro256PlusPlus,
-    kind: usize,
-    thread: usize,
-    sleeper: usize,
-    more: bool,
-) -> Event {
-    let key = 2 + below(rng, 2);
-    match kind {
         6 => Event::Enlist {
-            thread: sleeper,
+            thread,
             key,
             lock: below(rng, 2),
         },
@@ -98,25 +92,10 @@ fn cond_event(
             more,
         },
         9 => Event::Lower { thread, key },
-        _ => Event::Sweep { thread, key },
-    }
-}
-
-fn sem_event(
-    rng: &mut Xoshiro256PlusPlus,
-    kind: usize,
-    thread: usize,
-    sleeper: usize,
-    more: bool,
-) -> Event {
-    let key = 4 + below(rng, 2);
-    match kind {
+        10 => Event::Sweep { thread, key },
         11 => Event::SemTake { thread, key },
         12 => Event::SemMark { thread, key },
-        13 => Event::SemPark {
-            thread: sleeper,
-            key,
-        },
+        13 => Event::SemPark { thread, key },
         14 => Event::SemFree { thread, key },
         15 => Event::SemPass { thread, key, more },
         _ => Event::SemClear { thread, key },

@@ -8,7 +8,7 @@ get_or_park-requires-clause-laws g c κs within = laws _ g.N.LotName.locks
 
 pub get_or_park-requires-clause-waits : goal.get_or_park-requires-clause-waits
 get_or_park-requires-clause-waits g c κs within =
-    let two = c.requires.small.0 in
+    let two = c.requires.small.0.0 in
     begins any g.N.LotName.locks c.args.pass 0 (omega (arith, two)) (may_take c.requires.pass.0 0 c.args.pass (inl c.requires.pass.1))
 
 pub returns : goal.returns

@@ -4,7 +4,7 @@ use Rattle.base_trials.proofs.kinds.locks.park_in_vain.Goals as goal
 
 pub park-pass-requires-clause-parks : goal.park-pass-requires-clause-parks
 park-pass-requires-clause-parks g c κs within =
-    let two = c.requires.small.0 in
+    let two = c.requires.small.0.0 in
     trying g.N.LotName.locks c.requires.pass.0 0 c.args.pass (omega (arith, two)) c.requires.pass.1
 
 pub returns : goal.returns

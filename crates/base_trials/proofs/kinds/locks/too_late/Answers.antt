@@ -2,43 +2,46 @@ use Rattle.std.proofs.Common.{inl, inr, arith}
 use Rattle.base_trials.proofs.kinds.locks.too_late.Goals as goal
 
 pub mark-one-requires-clause-pass : goal.mark-one-requires-clause-pass
-mark-one-requires-clause-pass g c κs within = (1, c.want-one.ensures 1 (inl c.requires.calm.1))
+mark-one-requires-clause-pass g c κs within = (1, c.want-one.ensures 1 (inl c.args.three.calm.1))
 
 pub release-zero-requires-clause-pass : goal.release-zero-requires-clause-pass
-release-zero-requires-clause-pass g c κs within = (0, c.get-zero.ensures 0 (inl c.requires.calm.0))
+release-zero-requires-clause-pass g c κs within = (0, c.get-zero.ensures 0 (inl c.args.three.calm.0))
 
 pub park_in_vain-one-requires-clause-thread : goal.park_in_vain-one-requires-clause-thread
 park_in_vain-one-requires-clause-thread g c κs within =
-    let thread = (c.mark-one.ensures 1 (c.want-one.ensures 1 (inl c.requires.calm.1))).there.thread in
+    let thread = (c.mark-one.ensures 1 (c.want-one.ensures 1 (inl c.args.three.calm.1))).there.thread in
     omega (arith, thread)
 
 pub park_in_vain-one-requires-clause-pass : goal.park_in_vain-one-requires-clause-pass
-park_in_vain-one-requires-clause-pass g c κs within = (1, c.mark-one.ensures 1 (c.want-one.ensures 1 (inl c.requires.calm.1)))
+park_in_vain-one-requires-clause-pass g c κs within = (1, c.mark-one.ensures 1 (c.want-one.ensures 1 (inl c.args.three.calm.1)))
 
 pub want-one-requires-2-clause-pass : goal.want-one-requires-2-clause-pass
 want-one-requires-2-clause-pass g c κs within = (
   1,
   inr (c.park_in_vain-one.ensures 1
-      (c.mark-one.ensures 1 (c.want-one.ensures 1 (inl c.requires.calm.1)))),
+      (c.mark-one.ensures 1 (c.want-one.ensures 1 (inl c.args.three.calm.1)))),
 )
 
 pub release-two-requires-clause-pass : goal.release-two-requires-clause-pass
-release-two-requires-clause-pass g c κs within = (2, c.get-two.ensures 2 (inl c.requires.calm.2))
+release-two-requires-clause-pass g c κs within = (2, c.get-two.ensures 2 (inl c.args.three.calm.2))
 
 pub get-one-requires-clause-pass : goal.get-one-requires-clause-pass
 get-one-requires-clause-pass g c κs within =
-    let parked = c.park_in_vain-one.ensures 1 (c.mark-one.ensures 1 (c.want-one.ensures 1 (inl c.requires.calm.1))) in
+    let parked = c.park_in_vain-one.ensures 1 (c.mark-one.ensures 1 (c.want-one.ensures 1 (inl c.args.three.calm.1))) in
     (1, inr (c.want-one-2.ensures 1 (inr parked)))
 
 pub release-one-requires-clause-pass : goal.release-one-requires-clause-pass
 release-one-requires-clause-pass g c κs within =
-    let parked = c.park_in_vain-one.ensures 1 (c.mark-one.ensures 1 (c.want-one.ensures 1 (inl c.requires.calm.1))) in
+    let parked = c.park_in_vain-one.ensures 1 (c.mark-one.ensures 1 (c.want-one.ensures 1 (inl c.args.three.calm.1))) in
     (1, c.get-one.ensures 1 (inr (c.want-one-2.ensures 1 (inr parked))))
 
-pub returns : goal.returns
-returns g c =
-    let parked = c.park_in_vain-one.ensures 1 (c.mark-one.ensures 1 (c.want-one.ensures 1 (inl c.requires.calm.1))) in (
-      c.release-zero.ensures 0 (c.get-zero.ensures 0 (inl c.requires.calm.0)),
-      c.release-one.ensures 1 (c.get-one.ensures 1 (inr (c.want-one-2.ensures 1 (inr parked)))),
-      c.release-two.ensures 2 (c.get-two.ensures 2 (inl c.requires.calm.2)),
-    )
+pub invariant_of-result : goal.invariant_of-result
+invariant_of-result g c =
+    let parked = c.park_in_vain-one.ensures 1 (c.mark-one.ensures 1 (c.want-one.ensures 1 (inl c.args.three.calm.1))) in
+    record {
+      calm = (
+        c.release-zero.ensures 0 (c.get-zero.ensures 0 (inl c.args.three.calm.0)),
+        c.release-one.ensures 1 (c.get-one.ensures 1 (inr (c.want-one-2.ensures 1 (inr parked)))),
+        c.release-two.ensures 2 (c.get-two.ensures 2 (inl c.args.three.calm.2)),
+      );
+    }

@@ -1,4 +1,7 @@
-use Rattle.base_trials.proofs.Opened.{three_dealt, fresh_is}
+use Rattle.std.proofs.Common.{◌≡◌, refl}
+use Rattle.base_trials.specs.Opened.{fresh_at, size_of}
+use Rattle.base_trials.proofs.Dealt.{three_taken}
+use Rattle.base_trials.proofs.Opened.{fresh_is}
 use Rattle.base_trials.proofs.kinds.tables.deal.Goals as goal
 
 pub returns-clause-fresh : goal.returns-clause-fresh
@@ -6,10 +9,11 @@ returns-clause-fresh g c =
     let table = g.N.Name.opening.locks in
     let locks = g.N.LotName.locks in
     let conds = g.N.LotName.conds in
-    let dealt = c.requires in
-    let all = three_dealt table locks conds dealt.values _ _ _ _ _ _ _ dealt.long dealt.each c.take_last.ensures.items
-    c.take_last-2.ensures.items c.take_last-3.ensures.items in (
-      fresh_is table locks conds dealt.values 0 _ _ all.0 c.new-zero.ensures,
-      fresh_is table locks conds dealt.values 1 _ _ all.1 c.new-one.ensures,
-      fresh_is table locks conds dealt.values 2 _ _ all.2 c.new-two.ensures,
+    let values = c.requires.values in
+    let own = fresh_at table (size_of locks conds) values in
+    let all = three_taken own (λ t p. p ≡ own t) (λ t p is. is) _ _ _ _ _ _ _ c.take_three-zero.ensures.taken refl refl
+    (c.requires.long, c.requires.each) in (
+      fresh_is table locks conds values 0 _ _ all.0 c.new.ensures,
+      fresh_is table locks conds values 1 _ _ all.1 c.new-2.ensures,
+      fresh_is table locks conds values 2 _ _ all.2 c.new-3.ensures,
     )

@@ -5,7 +5,7 @@ use Rattle.base_trials.proofs.kinds.waiters.sweep_after.Goals as goal
 
 pub take_all-requires-clause-lowered : goal.take_all-requires-clause-lowered
 take_all-requires-clause-lowered g c κs within = (
-  (omega (arith, c.requires.small.0), omega (arith, c.requires.small.2)),
+  (omega (arith, c.requires.small.0.0), omega (arith, c.requires.small.0.2)),
   may_sweep c.args.pass c.look-pass.result.0 c.lower-pass.result 2 c.look-pass.result.1 c.requires.idle
       c.look-pass.ensures c.lower-pass.ensures,
 )

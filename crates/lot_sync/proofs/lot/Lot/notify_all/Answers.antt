@@ -16,9 +16,10 @@ at_rest-requires-clause-kept g c κs within =
     kept_called c.self.invariant.own_locks
     (took_all c.apart-right.result.0 c.notify_all-right.result.0 c.args.cond c.notify_all-right.result.1 c.notify_all-right.ensures.pass)
     c.apart-right.ensures.kept
-    (c.count_taken-tallies.ensures g.N.LotName.conds (counts_in c.apart-right.result.0)
-    (omega (arith, c.self.invariant.own_locks, c.parking.ensures.keys.0, c.requires.cond.0),
-    omega (arith, c.self.invariant.own_locks, c.parking.ensures.keys.0, c.requires.cond.1, c.parking.ensures.keys.1)))
+    (c.count_taken-tallies.ensures g.N.LotName.conds (counts_in c.apart-right.result.0) (
+      omega (arith, c.self.invariant.own_locks, c.parking.ensures.keys.0, c.requires.cond.0),
+      omega (arith, c.self.invariant.own_locks, c.parking.ensures.keys.0, c.requires.cond.1, c.parking.ensures.keys.1),
+    ))
 
 pub returns-clause-counted : goal.returns-clause-counted
 returns-clause-counted g c =

@@ -22,9 +22,10 @@ at_rest-requires-clause-kept g c κs within =
     (took_some c.apart-right.result.0 c.notify_one-right.result.0 c.args.cond 1
     (one_if c.notify_one-right.result.1) c.notify_one-right.ensures.pass))
     c.apart-right.ensures.kept
-    (c.count_taken-tallies.ensures g.N.LotName.conds (counts_in c.apart-right.result.0)
-    (omega (arith, c.self.invariant.own_locks, c.parking.ensures.keys.0, c.requires.cond.0),
-    omega (arith, c.self.invariant.own_locks, c.parking.ensures.keys.0, c.requires.cond.1, c.parking.ensures.keys.1)))
+    (c.count_taken-tallies.ensures g.N.LotName.conds (counts_in c.apart-right.result.0) (
+      omega (arith, c.self.invariant.own_locks, c.parking.ensures.keys.0, c.requires.cond.0),
+      omega (arith, c.self.invariant.own_locks, c.parking.ensures.keys.0, c.requires.cond.1, c.parking.ensures.keys.1),
+    ))
 
 pub returns-clause-counted : goal.returns-clause-counted
 returns-clause-counted g c =

@@ -18,6 +18,6 @@ let_go-pass-requires-clause-may g c κs within =
 pub invariant_of-result : goal.invariant_of-result
 invariant_of-result g c =
     let inv = c.self.invariant in
-    waited_again g.N.LotName.locks g.N.LotName.conds c.requires.small.0 c.requires.small.1 _ c.args.lock _ _ _ _ _ _ _ _ _ _ inv.0
+    waited_again g.N.LotName.locks g.N.LotName.conds c.requires.small.0.0 c.requires.small.0.1 _ c.args.lock _ _ _ _ _ _ _ _ _ _ inv.0
     c.get-owner.ensures.owner c.wait-again.ensures.waited
     c.let_go-pass.ensures.went inv.1 (c.count_wait-tallies.ensures 1 _)
