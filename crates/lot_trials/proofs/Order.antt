@@ -19,7 +19,7 @@ use Rattle.lot_whole.specs.Family.{cond}
 use Rattle.lot_whole.specs.Order.{LettersFollow, CountsFollow, SeesIn, accesses_of, state_after}
 use Rattle.lot_scheme.specs.declared.contention.Contention.{Contention}
 use Rattle.lot_scheme.specs.Roots.{size_named}
-use Rattle.lot_scheme.specs.Counts.{IsContention, CountTrace, CountsOf}
+use Rattle.lot_scheme.specs.Counts.{IsContention, CountTrace}
 use Rattle.lot_scheme.specs.Traces.{IsSeek, IsGot, GetTrace, IsVain}
 use Rattle.lot_locks.specs.declared.released.Released.{Released}
 use Rattle.lot_locks.specs.Released.{FreeTrace}
@@ -231,3 +231,8 @@ module _ {V : Type 0} (names : LotNames V) where
             (subst (λ n. IsContention (told + waiting) n (handed_in (tokens_of key w.before)) c) w.told_are
             (subst (λ n. IsContention (told + waiting) told n c) w.handed_are so));
       }
+
+-- it is so of the threads that these are
+pub first_of : {V : Type 0} (names : LotNames V) (a b t u c : ℕ) → a ≡ t → b ≡ u → IsNotifiedFirst names a b c → IsNotifiedFirst names t u c
+first_of names a b t u c of_a of_b is =
+    subst (λ x. IsNotifiedFirst names x u c) of_a (subst (λ y. IsNotifiedFirst names a y c) of_b is)

@@ -1,5 +1,5 @@
 -- What a pass has counted of a condition when a call or a trial of it ends.
-use Rattle.std.specs.Prelude.{◌≡◌, ℕ, Option, IsSomeAnd, slice_index}
+use Rattle.std.specs.Prelude.{◌≡◌, ℕ, slice_index}
 use Rattle.lot_sync.specs.Lot.{LotView, PassView, OwnsNone, HasShape, counts_of}
 
 module _ {V : Type 0} where
@@ -12,7 +12,3 @@ module _ {V : Type 0} where
     pub counts : counts_of after ≡ counts_of wanted
     pub free : OwnsNone after
     pub shape : HasShape lot after
-
-  -- the pass that lay there went through calls of this effect, and lies there again
-  abbrev pub GoesThere : (PassView V → PassView V → Type 0) → Option (PassView V) → Option (PassView V) → Type 0
-  GoesThere effect before after = IsSomeAnd before (λ p. IsSomeAnd after (λ q. effect p q))

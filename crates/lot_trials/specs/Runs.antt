@@ -1,5 +1,5 @@
 -- What a caller concludes when its lot is closed: all that was done with the lot is one run of the model.
-use Rattle.std.specs.Prelude.{◌≡◌, ℕ, ◌<◌, ◌++◌, true, List, ◌∷◌, map, Option, IsSomeAnd}
+use Rattle.std.specs.Prelude.{◌≡◌, ℕ, ◌<◌, ◌++◌, true, List, ◌∷◌, map}
 use Rattle.std.specs.List.{Any}
 use Rattle.lot_core.specs.Model.{opening_with}
 use Rattle.lot_core.specs.Steps.{Run, after_all}
@@ -34,10 +34,6 @@ module _ {V : Type 0} where
     pub same : p.thread ≡ thread
     pub free : OwnsNone p
     pub released : HasReleased p
-
-  -- the pass that lay there had its turn, and lies there again
-  abbrev pub TurnsThere : Option (PassView V) → Option (PassView V) → Type 0
-  TurnsThere before after = IsSomeAnd before (λ p. IsSomeAnd after (λ q. HasTurned p.thread q))
 
 -- ---- the run
 -- by one of these events, with what each saw

@@ -5,8 +5,8 @@ ghost use Rattle.lot_sync.specs.Opened.{IsNamed};
 ghost use Rattle.lot_sync.specs.Holding.{Holding, HoldingBoth};
 ghost use Rattle.lot_sync.specs.Opened.{KeepAll};
 
-use crate::asserts::{equal, failed, room_for};
-use crate::passes::enter;
+use crate::asserts::{equal, failed};
+use crate::passes::{enter, open, start};
 use lot_calls::finish;
 use lot_sync::{Held, Lot, LotName, Moment, Opened, Pass};
 use lot_words::Keeps;
@@ -173,17 +173,12 @@ fn open_and_move<N: LotName<Account> + Send + Sync, T: Wait + Abort>(
     requires named { IsNamed N.LotName opened }
     requires sizes { (opened.threads ≡ 2) × (length opened.values ≡ 2) }
 {
-    let passes = room_for(rt, alloc, 2);
-    match opened.start::<N>(alloc) {
-        Ok(lot) => {
-            move_in_turn(rt, &lot);
-            let (accounts, _) = finish(rt, lot, passes);
-            equal(rt, accounts.len(), 2);
-            equal(rt, (accounts[0].paid_in, accounts[0].paid_out), (5, 3));
-            equal(rt, (accounts[1].paid_in, accounts[1].paid_out), (8, 0));
-        }
-        Err(_) => failed(rt, "not started"),
-    }
+    let (lot, passes) = start::<Account, N, T>(rt, alloc, 2, opened);
+    move_in_turn(rt, &lot);
+    let (accounts, _) = finish(rt, lot, passes);
+    equal(rt, accounts.len(), 2);
+    equal(rt, (accounts[0].paid_in, accounts[0].paid_out), (5, 3));
+    equal(rt, (accounts[1].paid_in, accounts[1].paid_out), (8, 0));
 }
 
 #[test]
@@ -201,8 +196,6 @@ fn an_account_is_never_overdrawn(rt: HostRuntime) {
 fn on_account<T: Wait + Abort>(rt: &T, alloc: Global, accounts: Vec<Account>)
     requires { (vec_len accounts ≡ 2) × KeepAll (λ key account. account.paid_out ≤ account.paid_in) accounts.items }
 {
-    match Lot::<Account, Brand>::open(alloc, 2, accounts, 0) {
-        Ok(opened) => open_and_move::<Brand, T>(rt, alloc, opened),
-        Err(_) => failed(rt, "not opened"),
-    }
+    let opened = open(rt, alloc, 2, accounts, 0);
+    open_and_move::<Brand, T>(rt, alloc, opened);
 }

@@ -21,6 +21,16 @@ pub(crate) fn room_for<T>(rt: &impl Abort, alloc: Global, count: usize) -> Vec<T
     room
 }
 
+/// A list of so many copies of the value, or the test fails.
+pub(crate) fn copies<V: Copy>(rt: &impl Abort, alloc: Global, value: V, count: usize) -> Vec<V>
+    ensures { vec_len result ≡ count }
+{
+    let Ok(values) = vec![in alloc; value; count] else {
+        failed(rt, "no memory")
+    };
+    values
+}
+
 /// It is so, or the test fails.
 pub(crate) fn is_so(rt: &impl Abort, is_so: bool, what: &str)
     ensures { is_so ≡ true }

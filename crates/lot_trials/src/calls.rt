@@ -3,38 +3,12 @@
 
 use crate::asserts::{equal, failed, is_so};
 use lot_core::{CoreFault, Event, Script, ScriptFault, State, parse_script, print_state};
-use lot_journal::{Journal, JournalFault, Sequential};
+use lot_journal::{Journal, JournalFault};
+use lot_load::counter::{Add, Counter};
 use std::alloc::Global;
 use std::fmt::Debug;
 use std::process::Abort;
 use std::test::*;
-
-/// Adds this much.
-#[derive(Clone, Copy, Debug, PartialEq, Eq)]
-struct Add(u64);
-
-/// A total, modulo 2^64. Adding replies the new total.
-#[derive(Clone, Copy, Debug, PartialEq, Eq)]
-struct Total {
-    total: u64,
-}
-
-impl Sequential for Total {
-    ghost use Rattle.std.specs.Prelude.{◌+◌, ◌%◌, ◌^◌};
-
-    type Call = Add;
-
-    type Reply = u64;
-
-    ghost after = { λ total call. record { total = (total.total + call.0) % 2 ^ 64 } };
-
-    ghost reply = { λ total call. (total.total + call.0) % 2 ^ 64 };
-
-    fn apply(&mut self, call: &Add) -> u64 {
-        self.total = self.total.wrapping_add(call.0);
-        self.total
-    }
-}
 
 /// Memory was refused where it may be, and nothing else.
 fn is_refusal<F: PartialEq + Debug + Copy>(
@@ -48,7 +22,7 @@ fn is_refusal<F: PartialEq + Debug + Copy>(
 }
 
 /// The call that was refused, made again.
-fn add_again(rt: &impl Abort, journal: &mut Journal<Total>) -> u64 {
+fn add_again(rt: &impl Abort, journal: &mut Journal<Counter>) -> u64 {
     match journal.call(0, Add(1)) {
         Ok(total) => total,
         Err(_) => failed(rt, "refused again"),
@@ -56,12 +30,12 @@ fn add_again(rt: &impl Abort, journal: &mut Journal<Total>) -> u64 {
 }
 
 /// The total, and how many calls were made.
-fn shown(journal: &Journal<Total>) -> (u64, usize) {
+fn shown(journal: &Journal<Counter>) -> (u64, usize) {
     (journal.object().total, journal.history().len())
 }
 
 /// Calls once. Where memory is refused, the journal is as before, and the next call is made.
-fn add_one(rt: &impl Abort, journal: &mut Journal<Total>, is_ample: bool) -> u64 {
+fn add_one(rt: &impl Abort, journal: &mut Journal<Counter>, is_ample: bool) -> u64 {
     let before = shown(journal);
     match journal.call(0, Add(1)) {
         Ok(total) => total,
@@ -75,7 +49,7 @@ fn add_one(rt: &impl Abort, journal: &mut Journal<Total>, is_ample: bool) -> u64
 
 /// So many calls, that the list of calls grows several times.
 fn add_often(rt: &impl Abort, alloc: Global, is_ample: bool) {
-    let opening = Total { total: 0 };
+    let opening = Counter { total: 0 };
     let mut journal = Journal::new(alloc, opening, opening);
     for before in 0..40u64 {
         equal(rt, add_one(rt, &mut journal, is_ample), before + 1);

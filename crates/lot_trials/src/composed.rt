@@ -5,11 +5,11 @@ ghost use Rattle.lot_sync.specs.Holding.{Holding};
 ghost use Rattle.lot_sync.specs.Lot.{OwnsNone};
 ghost use Rattle.lot_sync.specs.Opened.{IsNamed};
 
-use crate::asserts::{equal, failed, is_so, room_for, started};
+use crate::asserts::{copies, equal, failed, is_so, started};
 use crate::counts::{
     Count, Gathered, await_count, await_line, call_one, end, own, raise, release, try_own,
 };
-use crate::passes::enter;
+use crate::passes::{enter, open, start};
 use lot_calls::{lock_until, wait_until, with_lock};
 use lot_sync::{Held, Lot, LotName, Moment, Opened, Pass};
 use std::alloc::Global;
@@ -206,10 +206,7 @@ fn play<N: LotName<Count> + Send + Sync, T: Threads + Wait + Sync + Abort>(
     requires named { IsNamed N.LotName opened }
     requires sizes { (opened.threads ≡ 2) × (length opened.values ≡ 1) × (opened.conds ≡ 1) }
 {
-    let passes = room_for(rt, alloc, 2);
-    let Ok(lot) = opened.start::<N>(alloc) else {
-        failed(rt, "not started")
-    };
+    let (lot, passes) = start::<Count, N, T>(rt, alloc, 2, opened);
     match what {
         Deeds::Waits => wait_and_raise(rt, &lot),
         Deeds::Visits => visit_and_wait(rt, &lot),
@@ -219,13 +216,9 @@ fn play<N: LotName<Count> + Send + Sync, T: Threads + Wait + Sync + Abort>(
 }
 
 fn on_count<T: Threads + Wait + Sync + Abort>(rt: &T, alloc: Global, what: Deeds) -> u64 {
-    let Ok(values) = vec![in alloc; Count { n: 7 }; 1] else {
-        failed(rt, "no memory")
-    };
-    match Lot::<Count, Brand>::open(alloc, 2, values, 1) {
-        Ok(opened) => play::<Brand, T>(rt, alloc, opened, what),
-        Err(_) => failed(rt, "not opened"),
-    }
+    let values = copies(rt, alloc, Count { n: 7 }, 1);
+    let opened = open(rt, alloc, 2, values, 1);
+    play::<Brand, T>(rt, alloc, opened, what)
 }
 
 #[test]

@@ -8,9 +8,9 @@ ghost use Rattle.lot_sync.specs.Lot.{PassView, OwnsNone};
 ghost use Rattle.lot_sync.specs.Opened.{IsNamed};
 ghost use Rattle.lot_trials.specs.Order.{IsToldOf};
 
-use crate::asserts::{equal, failed, is_so, room_for};
+use crate::asserts::{copies, equal, failed, is_so, room_for};
 use crate::counts::{Count, await_count, await_line, own, release, release_fairly};
-use crate::passes::enter;
+use crate::passes::{enter, open};
 use lot_calls::take_all;
 use lot_sync::{Contention, Lot, LotName, Opened, Pass, Released};
 use std::alloc::Global;
@@ -149,18 +149,12 @@ fn check_counts<T: Threads + Wait + Sync + Abort>(
     fairly: bool,
     handed: u64,
 ) {
-    let Ok(values) = vec![in alloc; Count { n: 7 }; 2] else {
-        failed(rt, "no memory")
-    };
-    match Lot::<Count, Brand>::open(alloc, 2, values, 0) {
-        Ok(opened) => {
-            let counts = counts_of::<Brand, T>(rt, alloc, opened, fairly);
-            is_so(rt, counts.len() == 2, "each key is told of");
-            equal(rt, counts[0], counted(0, 0, 0));
-            equal(rt, counts[1], counted(1, 1, handed));
-        }
-        Err(_) => failed(rt, "not opened"),
-    }
+    let values = copies(rt, alloc, Count { n: 7 }, 2);
+    let opened = open(rt, alloc, 2, values, 0);
+    let counts = counts_of::<Brand, T>(rt, alloc, opened, fairly);
+    is_so(rt, counts.len() == 2, "each key is told of");
+    equal(rt, counts[0], counted(0, 0, 0));
+    equal(rt, counts[1], counted(1, 1, handed));
 }
 
 /// Starts a lot of one thread, and counts there.
@@ -182,16 +176,10 @@ fn noted<N: LotName<Count> + Send + Sync, T: Wait + Abort>(
 
 #[test]
 fn a_count_stands_in_the_history(rt: HostRuntime) {
-    let Ok(values) = vec![in rt.alloc(); Count { n: 7 }; 2] else {
-        failed(&rt, "no memory")
-    };
-    match Lot::<Count, Brand>::open(rt.alloc(), 1, values, 0) {
-        Ok(opened) => {
-            let seen = noted::<Brand, HostRuntime>(&rt, rt.alloc(), opened);
-            equal(&rt, seen, counted(0, 0, 0));
-        }
-        Err(_) => failed(&rt, "not opened"),
-    }
+    let values = copies(&rt, rt.alloc(), Count { n: 7 }, 2);
+    let opened = open(&rt, rt.alloc(), 1, values, 0);
+    let seen = noted::<Brand, HostRuntime>(&rt, rt.alloc(), opened);
+    equal(&rt, seen, counted(0, 0, 0));
 }
 
 #[test]

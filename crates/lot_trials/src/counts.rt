@@ -177,7 +177,16 @@ struct AtGate<'a, T> {
     rt: &'a T,
     gate: &'a AtomicU64,
     /// How often it came here.
-    runs: &'a AtomicU64,
+    runs: AtomicU64,
+}
+
+/// A thread that has not come there yet.
+fn before_gate<'a, T>(rt: &'a T, gate: &'a AtomicU64) -> AtGate<'a, T> {
+    AtGate {
+        rt,
+        gate,
+        runs: AtomicU64::new(0),
+    }
 }
 
 impl<T: Wait + Abort> BeforeSleep for AtGate<'_, T> {
@@ -201,14 +210,9 @@ pub(crate) fn own_at_gate<N: LotName<Count> + Send + Sync, T: Wait + Abort>(
     ensures key { result.1.key ≡ key }
     ensures holding { Holding (λ x y. x.n ≤ y.n) result.0 result.1 }
 {
-    let runs = AtomicU64::new(0);
-    let before = AtGate {
-        rt,
-        gate,
-        runs: &runs,
-    };
+    let before = before_gate(rt, gate);
     let (pass, held) = lot.lock_after(rt, pass, key, &before);
-    (pass, held, runs.load(Ordering::SeqCst))
+    (pass, held, before.runs.load(Ordering::SeqCst))
 }
 
 /// `lock` of a second lock, and what the test has of it.
@@ -280,14 +284,9 @@ pub(crate) fn wait_at_gate<N: LotName<Count> + Send + Sync, T: Wait + Abort>(
     ensures holding { Holding (λ x y. x.n ≤ y.n) result.0 result.1 }
 {
     let moment = Moment { now: 5, word: 7 };
-    let runs = AtomicU64::new(0);
-    let before = AtGate {
-        rt,
-        gate,
-        runs: &runs,
-    };
+    let before = before_gate(rt, gate);
     let (pass, held) = lot.wait_after(rt, pass, held, cond, moment, &before);
-    (pass, held, runs.load(Ordering::SeqCst))
+    (pass, held, before.runs.load(Ordering::SeqCst))
 }
 
 /// `notify_one` at a moment, and what the test has of it.
@@ -405,10 +404,18 @@ fn next_pass<N: LotName<Count> + Send + Sync, T: Wait + Abort>(
     ensures thread { result.thread ≡ thread }
     ensures free { OwnsNone result }
 {
-    match how {
-        Gathered::Left => take_pass(rt, lot, thread),
-        Gathered::Registered => next_registered(rt, lot, thread, wanted_size(thread)),
-        Gathered::RegisteredAt(size) => next_registered(rt, lot, thread, size),
+    let size = match how {
+        Gathered::Left => return take_pass(rt, lot, thread),
+        Gathered::Registered => wanted_size(thread),
+        Gathered::RegisteredAt(size) => size,
+    };
+    let pass = enter(rt, lot);
+    equal(rt, lot.table_size(rt), size);
+    let given = pass.thread();
+    if given == thread {
+        pass
+    } else {
+        panic!(rt; "thread {given} was given before {thread}")
     }
 }
 
@@ -476,24 +483,4 @@ fn wanted_size(thread: usize) -> usize {
         }
     }
     wanted
-}
-
-fn next_registered<N: LotName<Count> + Send + Sync, T: Wait + Abort>(
-    rt: &T,
-    lot: &mut Lot<Count, N>,
-    thread: usize,
-    size: usize,
-) -> Pass<Count, N>
-    ensures same { lot.new ≡ lot.old }
-    ensures thread { result.thread ≡ thread }
-    ensures free { OwnsNone result }
-{
-    let pass = enter(rt, lot);
-    equal(rt, lot.table_size(rt), size);
-    let given = pass.thread();
-    if given == thread {
-        pass
-    } else {
-        panic!(rt; "thread {given} was given before {thread}")
-    }
 }

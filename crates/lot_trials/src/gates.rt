@@ -4,32 +4,48 @@ use crate::asserts::{equal, same_text};
 use lot_load::count::{Counting, count_with};
 use lot_load::gate::{Gate, Point};
 use lot_load::relay::{Relaying, relay_with};
-use std::alloc::Global;
 use std::process::Abort;
-use std::sync::Wait;
 use std::sync::atomic::{AtomicU64, Ordering};
 use std::thread;
-use std::thread::Threads;
-
-/// Holds worker 0 in its first round, where it owns its lock, until worker 1 owns its own there.
-#[derive(Drop)]
-struct Meeting {
-    arrived: AtomicU64,
-    missed: AtomicU64,
-}
 
 /// How often a held worker asks before it gives up.
 const ASKINGS: u64 = 10_000_000;
 
-/// Asks until the flag is raised, or notes that it was missed.
-fn await_raised(flag: &AtomicU64, missed: &AtomicU64) {
-    for _ in 0..ASKINGS {
-        if flag.load(Ordering::SeqCst) != 0 {
-            return;
+/// A flag that one worker raises, and whether another that was held for it gave up.
+#[derive(Drop)]
+struct Flag {
+    raised: AtomicU64,
+    missed: AtomicU64,
+}
+
+impl Flag {
+    fn lowered() -> Flag {
+        Flag {
+            raised: AtomicU64::new(0),
+            missed: AtomicU64::new(0),
         }
-        thread::yield_now();
     }
-    missed.store(1, Ordering::SeqCst);
+
+    fn raise(&self) {
+        self.raised.store(1, Ordering::SeqCst);
+    }
+
+    /// Asks until the flag is raised, or notes that it was missed.
+    fn await_raised(&self) {
+        for _ in 0..ASKINGS {
+            if self.raised.load(Ordering::SeqCst) != 0 {
+                return;
+            }
+            thread::yield_now();
+        }
+        self.missed.store(1, Ordering::SeqCst);
+    }
+}
+
+/// Holds worker 0 in its first round, where it owns its lock, until worker 1 owns its own there.
+#[derive(Drop)]
+struct Meeting {
+    arrived: Flag,
 }
 
 impl Gate for Meeting {
@@ -38,10 +54,10 @@ impl Gate for Meeting {
             return;
         }
         if worker == 1 {
-            self.arrived.store(1, Ordering::SeqCst);
+            self.arrived.raise();
             return;
         }
-        await_raised(&self.arrived, &self.missed);
+        self.arrived.await_raised();
     }
 }
 
@@ -49,73 +65,48 @@ impl Gate for Meeting {
 /// round.
 #[derive(Drop)]
 struct Filled {
-    full: AtomicU64,
-    missed: AtomicU64,
+    full: Flag,
 }
 
 impl Gate for Filled {
     fn reached(&self, worker: usize, round: u64, point: Point) {
         if worker == 0 && round == 3 && point == Point::BeforeRelease {
-            self.full.store(1, Ordering::SeqCst);
+            self.full.raise();
         }
         if worker != 1 || round != 0 || point != Point::BeforeLock {
             return;
         }
-        await_raised(&self.full, &self.missed);
+        self.full.await_raised();
     }
 }
 
-/// The numbers are relayed past this gate, at which nothing is missed.
-fn relays_past<R: Threads + Wait + Sync + Abort>(
-    rt: &R,
-    alloc: Global,
-    filled: &Filled,
-    relaying: &Relaying,
-) {
-    let mut out = Vec::new(alloc);
-    let mut faults = Vec::new(alloc);
-    let status = relay_with(rt, alloc, filled, relaying, &mut out, &mut faults);
-    equal(rt, filled.missed.load(Ordering::SeqCst), 0);
-    let want = "put 9\ntaken 9\nsum 45\nbalanced\n";
-    same_text(rt, out.as_slice(), want, "output");
-    equal(rt, status, 0);
+/// A run past a gate, at which nothing was missed, wrote this and ended well.
+fn went_past(rt: &impl Abort, flag: &Flag, run: (&[u8], u8), want: &str) {
+    equal(rt, flag.missed.load(Ordering::SeqCst), 0);
+    same_text(rt, run.0, want, "output");
+    equal(rt, run.1, 0);
 }
 
 #[test]
 fn producer_fills_the_buffer_first(rt: HostRuntime) {
     let filled = Filled {
-        full: AtomicU64::new(0),
-        missed: AtomicU64::new(0),
+        full: Flag::lowered(),
     };
     let relaying = Relaying {
         threads: 2,
         rounds: 9,
         seed: 7,
     };
-    relays_past(&rt, rt.alloc(), &filled, &relaying);
-}
-
-/// The rounds are counted past this gate, at which nothing is missed.
-fn counts_past<R: Threads + Wait + Sync + Abort>(
-    rt: &R,
-    alloc: Global,
-    meeting: &Meeting,
-    counting: &Counting,
-) {
-    let mut out = Vec::new(alloc);
-    let mut faults = Vec::new(alloc);
-    let status = count_with(rt, alloc, meeting, counting, &mut out, &mut faults);
-    equal(rt, meeting.missed.load(Ordering::SeqCst), 0);
-    let want = "lock 0 total 10\nlock 1 total 10\nsum 20\n";
-    same_text(rt, out.as_slice(), want, "output");
-    equal(rt, status, 0);
+    let (mut out, mut faults) = (Vec::new(rt.alloc()), Vec::new(rt.alloc()));
+    let status = relay_with(&rt, rt.alloc(), &filled, &relaying, &mut out, &mut faults);
+    let want = "put 9\ntaken 9\nsum 45\nbalanced\n";
+    went_past(&rt, &filled.full, (out.as_slice(), status), want);
 }
 
 #[test]
 fn two_workers_meet(rt: HostRuntime) {
     let meeting = Meeting {
-        arrived: AtomicU64::new(0),
-        missed: AtomicU64::new(0),
+        arrived: Flag::lowered(),
     };
     let counting = Counting {
         threads: 2,
@@ -123,5 +114,8 @@ fn two_workers_meet(rt: HostRuntime) {
         rounds: 10,
         seed: 7,
     };
-    counts_past(&rt, rt.alloc(), &meeting, &counting);
+    let (mut out, mut faults) = (Vec::new(rt.alloc()), Vec::new(rt.alloc()));
+    let status = count_with(&rt, rt.alloc(), &meeting, &counting, &mut out, &mut faults);
+    let want = "lock 0 total 10\nlock 1 total 10\nsum 20\n";
+    went_past(&rt, &meeting.arrived, (out.as_slice(), status), want);
 }

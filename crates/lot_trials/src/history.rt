@@ -8,8 +8,8 @@ ghost use Rattle.lot_load.specs.declared.counter.Add.{Add};
 ghost use Rattle.lot_load.specs.declared.counter.Counter.{Counter};
 ghost use Rattle.lot_trials.specs.Theres.{IsCountedOnce};
 
-use crate::asserts::{equal, failed, is_so, room_for};
-use crate::passes::enter;
+use crate::asserts::{equal, failed, is_so};
+use crate::passes::{enter, open, start};
 use lot_calls::finish;
 use lot_journal::{Entry, Journal};
 use lot_load::count::{Counting, Counts, add_one, go_round, new_journals};
@@ -82,22 +82,6 @@ fn add<V: Tells + Send, N: LotName<V> + Send + Sync, T: Wait + Abort>(
     pass
 }
 
-/// Locks lock 0, finds the calls of both threads, and unlocks.
-fn find_history<V: Tells + Send, N: LotName<V> + Send + Sync, T: Wait + Abort>(
-    rt: &T,
-    lot: &Lot<V, N>,
-    pass: Pass<V, N>,
-) -> Pass<V, N>
-    requires key { 0 < lot.now.locks }
-    requires free { OwnsNone pass }
-    ensures { OwnsNone result }
-{
-    let (pass, held) = lot.lock(rt, pass, 0);
-    is_so(rt, held.value().has_both(), "both threads called");
-    let (pass, _) = lot.unlock(rt, pass, held, Moment { now: 0, word: 0 });
-    pass
-}
-
 /// Locks lock 0, adds one and unlocks: the call is there, behind all that was seen.
 fn call_once<V: Tells + Send, N: LotName<V> + Send + Sync, T: Wait + Abort>(
     rt: &T,
@@ -123,21 +107,23 @@ fn call_once<V: Tells + Send, N: LotName<V> + Send + Sync, T: Wait + Abort>(
     }
 }
 
-/// Locks lock 0 and unlocks: what the pass sees has gone on from what it had seen, without a call of its own.
+/// Locks lock 0, looks for the calls of both threads, and unlocks: what the pass sees has gone on from what it had
+/// seen, without a call of its own.
 fn look<V: Tells + Send, N: LotName<V> + Send + Sync, T: Wait>(
     rt: &T,
     lot: &Lot<V, N>,
     pass: Pass<V, N>,
-) -> Pass<V, N>
+) -> (Pass<V, N>, bool)
     requires key { 0 < lot.now.locks }
     requires free { OwnsNone pass }
-    ensures free { OwnsNone result }
-    ensures on { (seen now : V) → HasSeen pass 0 seen → HasSeen result 0 now
+    ensures free { OwnsNone result.0 }
+    ensures on { (seen now : V) → HasSeen pass 0 seen → HasSeen result.0 0 now
         → V.grows seen now × (V.part pass.thread seen ≡ V.part pass.thread now) }
 {
     let (pass, held) = lot.lock(rt, pass, 0);
+    let has_both = held.value().has_both();
     let (pass, _) = lot.unlock(rt, pass, held, Moment { now: 0, word: 0 });
-    pass
+    (pass, has_both)
 }
 
 /// The thread calls once, another may come between, and the thread looks: its call is in the history, after all that it
@@ -155,7 +141,8 @@ fn call_and_look<V: Tells + Send, N: LotName<V> + Send + Sync, T: Wait + Abort>(
 {
     let pass = call_once(rt, lot, pass);
     let other = call_once(rt, lot, other);
-    (look(rt, lot, pass), other)
+    let (pass, _) = look(rt, lot, pass);
+    (pass, other)
 }
 
 /// The same of a lot of journals.
@@ -183,15 +170,13 @@ fn add_in_turn<N: LotName<Journal<Counter>> + Send + Sync, T: Wait + Abort>(
     requires sizes { (opened.threads ≡ 2) × (length opened.values ≡ 1) }
     ensures { vec_len result ≡ 1 }
 {
-    let passes = room_for(rt, alloc, 2);
-    let Ok(lot) = opened.start::<N>(alloc) else {
-        failed(rt, "not started")
-    };
+    let (lot, passes) = start::<Journal<Counter>, N, T>(rt, alloc, 2, opened);
     let zero = enter(rt, &lot);
     let one = enter(rt, &lot);
     let zero = add(rt, &lot, zero);
     let one = add(rt, &lot, one);
-    let zero = find_history(rt, &lot, zero);
+    let (zero, has_both) = look(rt, &lot, zero);
+    is_so(rt, has_both, "both threads called");
     let (one, zero) = call_and_look_in_journal(rt, &lot, one, zero);
     lot.leave(rt, one);
     lot.leave(rt, zero);
@@ -201,13 +186,9 @@ fn add_in_turn<N: LotName<Journal<Counter>> + Send + Sync, T: Wait + Abort>(
 fn open_and_add<T: Wait + Abort>(rt: &T, alloc: Global, journals: Vec<Journal<Counter>>)
     requires { (vec_len journals ≡ 1) × AllLegal journals.items }
 {
-    match Lot::<Journal<Counter>, Brand>::open(alloc, 2, journals, 0) {
-        Ok(opened) => {
-            let journals = add_in_turn::<Brand, T>(rt, alloc, opened);
-            equal(rt, journals[0].object().total, 4);
-        }
-        Err(_) => failed(rt, "not opened"),
-    }
+    let opened = open(rt, alloc, 2, journals, 0);
+    let journals = add_in_turn::<Brand, T>(rt, alloc, opened);
+    equal(rt, journals[0].object().total, 4);
 }
 
 #[test]

@@ -1,8 +1,7 @@
 //! What `contend` of the program prints: what was counted, and the locks that were waited for most.
 
-use crate::asserts::{failed, is_so, same_status, same_text};
-use crate::texts::{check_refusals, check_runs};
-use lot_load::run_command;
+use crate::asserts::{failed, is_so};
+use crate::texts::{check_refusals, check_runs, printed};
 use std::alloc::Global;
 use std::process::Abort;
 use std::sync::Wait;
@@ -138,11 +137,7 @@ fn check_hot<R: Threads + Wait + Sync + Abort>(
     words: &[&str],
     head: &str,
 ) {
-    let file: Option<&[u8]> = None;
-    let (mut out, mut faults) = (Vec::new(alloc), Vec::new(alloc));
-    let status = run_command(rt, alloc, words, file, &mut out, &mut faults);
-    same_status(rt, status, 0, name);
-    same_text(rt, faults.as_slice(), "", name);
+    let out = printed(rt, alloc, name, words);
     let Ok(text) = str::from_utf8(out.as_slice()) else {
         failed(rt, "no text was printed")
     };

@@ -36,6 +36,8 @@ mod many;
 #[cfg(test)]
 mod measures;
 #[cfg(test)]
+mod pairs;
+#[cfg(test)]
 mod passes;
 #[cfg(test)]
 mod permits;
@@ -57,6 +59,8 @@ mod standing;
 mod steps;
 #[cfg(test)]
 mod texts;
+#[cfg(test)]
+mod values;
 #[cfg(test)]
 mod visits;
 #[cfg(test)]

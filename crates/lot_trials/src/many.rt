@@ -3,11 +3,11 @@
 ghost use Rattle.std.specs.Prelude.{◌≡◌, length, vec_len};
 ghost use Rattle.lot_sync.specs.Opened.{IsNamed};
 
-use crate::asserts::{equal, failed, is_so, room_for};
+use crate::asserts::{copies, equal, failed, is_so};
 use crate::counts::{
     Count, Gathered, await_count, await_line, end, own, raise, release, release_fairly,
 };
-use crate::passes::enter;
+use crate::passes::{enter, start};
 use crate::texts::{check_refusals, check_runs};
 use lot_sync::{Lot, LotName, MOST_CONDS, MOST_KEYS, OpenFault, Opened, Released};
 use std::alloc::Global;
@@ -40,9 +40,7 @@ const REFUSED: [(usize, usize, usize, OpenFault); 6] = [
 fn counts(rt: &impl Abort, alloc: Global, count: usize) -> Vec<Count>
     ensures { vec_len result ≡ count }
 {
-    let Ok(mut values) = vec![in alloc; Count { n: 0 }; count] else {
-        failed(rt, "no memory")
-    };
+    let mut values = copies(rt, alloc, Count { n: 0 }, count);
     number(values.as_mut_slice());
     values
 }
@@ -62,7 +60,7 @@ fn are_numbered(rt: &impl Abort, values: &[Count]) {
 }
 
 /// The opening was refused so, and so many values came back.
-fn is_refused(
+pub(crate) fn is_refused(
     rt: &impl Abort,
     opened: Result<Opened<Count>, (OpenFault, Vec<Count>)>,
     want: (OpenFault, usize),
@@ -137,10 +135,7 @@ fn table_stays<N: LotName<Count> + Send + Sync, T: Wait + Abort>(
     requires named { IsNamed N.LotName opened }
     requires threads { opened.threads ≡ threads }
 {
-    let passes = room_for(rt, alloc, threads);
-    let Ok(lot) = opened.start::<N>(alloc) else {
-        failed(rt, "not started")
-    };
+    let (lot, passes) = start::<Count, N, T>(rt, alloc, threads, opened);
     equal(rt, lot.table_size(rt), size);
     let (values, _) = end(rt, lot, passes, threads, Gathered::RegisteredAt(size));
     are_numbered(rt, values.as_slice());
@@ -213,10 +208,7 @@ fn handed<N: LotName<Count> + Send + Sync, T: Threads + Wait + Sync + Abort>(
     requires named { IsNamed N.LotName opened }
     requires sizes { (opened.threads ≡ 2) × (length opened.values ≡ MILLION) }
 {
-    let passes = room_for(rt, alloc, 2);
-    let Ok(lot) = opened.start::<N>(alloc) else {
-        failed(rt, "not started")
-    };
+    let (lot, passes) = start::<Count, N, T>(rt, alloc, 2, opened);
     let owned = AtomicU64::new(0);
     let hands = ||
         requires locks { lot.locks ≡ MILLION }
@@ -231,9 +223,7 @@ fn handed<N: LotName<Count> + Send + Sync, T: Threads + Wait + Sync + Abort>(
 
 #[test]
 fn a_sleeper_on_the_last_of_a_million_keys_is_handed_its_lock(rt: HostRuntime) {
-    let Ok(values) = vec![in rt.alloc(); Count { n: 7 }; MILLION] else {
-        failed(&rt, "no memory")
-    };
+    let values = copies(&rt, rt.alloc(), Count { n: 7 }, MILLION);
     match Lot::<Count, Brand>::open_many(rt.alloc(), 2, values, 0, &[]) {
         Ok(opened) => {
             let values = handed::<Brand, HostRuntime>(&rt, rt.alloc(), opened);

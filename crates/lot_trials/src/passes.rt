@@ -1,12 +1,55 @@
-//! Passes in tests: how a thread gets one, and how one comes back that was left.
-ghost use Rattle.std.specs.Prelude.{◌≡◌, ◌<◌};
-ghost use Rattle.lot_sync.specs.Lot.{OwnsNone, rested};
+//! Lots in tests and their passes: how a lot opens and starts, how a thread gets a pass, and how one comes back that
+//! was left.
+ghost use Rattle.std.specs.Prelude.{◌≡◌, ◌≤◌, ◌<◌, length, vec_len, vec_capacity};
+ghost use Rattle.lot_sync.specs.Lot.{PassView, OwnsNone, rested};
+ghost use Rattle.lot_sync.specs.Opened.{KeepAll, IsNamed};
+ghost use Rattle.lot_sync.specs.Starting.{Starts};
 
-use crate::asserts::failed;
-use lot_sync::{Lot, LotName, Pass, Tally};
+use crate::asserts::{failed, room_for};
+use lot_sync::{Lot, LotName, Opened, Pass, Tally};
 use lot_words::Keeps;
+use std::alloc::Global;
+use std::marker::Brand;
 use std::process::Abort;
 use std::sync::Wait;
+
+/// Opens a lot for so many threads, with a lock for each value, and so many conditions, or the test fails.
+pub(crate) fn open<V: Keeps + Send>(
+    rt: &impl Abort,
+    alloc: Global,
+    threads: usize,
+    values: Vec<V>,
+    conds: usize,
+) -> Opened<V>
+    requires { KeepAll V.keeps values.items }
+    ensures { (result.threads ≡ threads) × (result.values ≡ values.items) × (result.conds ≡ conds) }
+{
+    match Lot::<V, Brand>::open(alloc, threads, values, conds) {
+        Ok(opened) => opened,
+        Err(_) => failed(rt, "not opened"),
+    }
+}
+
+/// Starts the lot, with room for the passes of its threads, or the test fails.
+pub(crate) fn start<V: Keeps + Send, N: LotName<V> + Send, T: Abort>(
+    rt: &T,
+    alloc: Global,
+    threads: usize,
+    opened: Opened<V>,
+) -> (Lot<V, N>, Vec<Pass<V, N>>)
+    requires named { IsNamed N.LotName opened }
+    requires threads { opened.threads ≡ threads }
+    requires rests { (p : PassView V) → Starts opened.values opened.threads p → V.rests (rested p) }
+    ensures lot { (result.0.threads ≡ opened.threads) × (result.0.locks ≡ length opened.values)
+        × (result.0.conds ≡ opened.conds) × (result.0.sems ≡ length opened.permits) }
+    ensures room { (vec_len result.1 ≡ 0) × (threads ≤ vec_capacity result.1) }
+{
+    let passes = room_for(rt, alloc, threads);
+    match opened.start::<N>(alloc) {
+        Ok(lot) => (lot, passes),
+        Err(_) => failed(rt, "not started"),
+    }
+}
 
 /// A pass of the lot, in which one is.
 pub(crate) fn enter<V: Keeps + Send, N: LotName<V> + Send + Sync, C: Tally + Send, T: Wait + Abort>(

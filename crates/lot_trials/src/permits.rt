@@ -4,9 +4,9 @@ ghost use Rattle.lot_scheme.specs.SemCalls.{opening_permits};
 ghost use Rattle.lot_sync.specs.Lot.{OwnsNone, permits_with};
 ghost use Rattle.lot_sync.specs.Opened.{IsNamed};
 
-use crate::asserts::{equal, failed, room_for};
+use crate::asserts::{copies, equal, failed};
 use crate::counts::Count;
-use crate::passes::enter;
+use crate::passes::{enter, start};
 use crate::steps::Step;
 use crate::waits::{COND, on_conds};
 use lot_calls::finish;
@@ -169,10 +169,7 @@ fn play<N: LotName<Count> + Send + Sync, T: Wait + Abort>(
     requires sizes { (opened.threads ≡ 2) × (length opened.values ≡ 1) × (opened.conds ≡ 0)
         × (length opened.permits ≡ 1) }
 {
-    let passes = room_for(rt, alloc, 2);
-    let Ok(lot) = opened.start::<N>(alloc) else {
-        failed(rt, "not started")
-    };
+    let (lot, passes) = start::<Count, N, T>(rt, alloc, 2, opened);
     let first = enter(rt, &lot);
     let second = enter(rt, &lot);
     equal(rt, lot.permits_left(1), 2);
@@ -184,9 +181,7 @@ fn play<N: LotName<Count> + Send + Sync, T: Wait + Abort>(
 
 #[test]
 fn two_passes_hold_both_permits(rt: HostRuntime) {
-    let Ok(values) = vec![in rt.alloc(); Count { n: 7 }; 1] else {
-        failed(&rt, "no memory")
-    };
+    let values = copies(&rt, rt.alloc(), Count { n: 7 }, 1);
     match Lot::<Count, Brand>::open_with(rt.alloc(), 2, values, 0, &[2]) {
         Ok(opened) => play::<Brand, HostRuntime>(&rt, rt.alloc(), opened),
         Err(_) => failed(&rt, "not opened"),

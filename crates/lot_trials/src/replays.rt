@@ -1,31 +1,13 @@
 //! What `replay` of the program prints of scripts, and which files it can't read.
 
 use crate::asserts::equal_in;
-use crate::texts::{check, push_lines};
+use crate::texts::{check, check_file, check_scripts, long_script, push_lines};
 use lot_load::run_command;
 use std::alloc::{AllocError, Global};
 use std::process::Abort;
 use std::sync::Wait;
 use std::test::Fail;
 use std::thread::Threads;
-
-/// Replays each script, and compares what is written and the status.
-fn check_replays<R: Threads + Wait + Sync + Abort>(
-    rt: &R,
-    alloc: Global,
-    rows: &[(&str, &str, &str, &str, u8)],
-) {
-    for (name, script, out, faults, status) in rows {
-        check(
-            rt,
-            alloc,
-            name,
-            &["replay", "script"],
-            Some(script.as_bytes()),
-            (*out, *faults, *status),
-        );
-    }
-}
 
 /// A script, what is printed of it, the fault, and the status.
 static REPLAYS: [(&str, &str, &str, &str, u8); 32] = [
@@ -215,7 +197,7 @@ static REPLAYS: [(&str, &str, &str, &str, u8); 32] = [
 
 #[test]
 fn scripts_are_replayed(rt: HostRuntime) {
-    check_replays(&rt, rt.alloc(), &REPLAYS);
+    check_scripts(&rt, rt.alloc(), "replay", &REPLAYS);
 }
 
 /// The same with notifications by count.
@@ -252,7 +234,7 @@ static SOME: [(&str, &str, &str, &str, u8); 4] = [
 
 #[test]
 fn notifications_by_count_are_replayed(rt: HostRuntime) {
-    check_replays(&rt, rt.alloc(), &SOME);
+    check_scripts(&rt, rt.alloc(), "replay", &SOME);
 }
 
 /// The same with semaphores.
@@ -282,16 +264,7 @@ static PERMITS: [(&str, &str, &str, &str, u8); 3] = [
 
 #[test]
 fn permits_are_replayed(rt: HostRuntime) {
-    check_replays(&rt, rt.alloc(), &PERMITS);
-}
-
-/// A script of so many lines after the first.
-fn long_script(alloc: Global, lines: u32) -> Result<String, AllocError> {
-    let mut script = String::from_str(alloc, "open 1 1 0\n")?;
-    for _ in 0..lines {
-        script.push_str("try 0 0\n")?;
-    }
-    Ok(script)
+    check_scripts(&rt, rt.alloc(), "replay", &PERMITS);
 }
 
 /// Replays a script of so many lines after the first.
@@ -302,9 +275,8 @@ fn check_long_script<R: Threads + Wait + Sync + Abort>(
     lines: u32,
     want: (&str, &str, u8),
 ) -> Result<(), AllocError> {
-    let script = long_script(alloc, lines)?;
-    let file = Some(script.as_bytes());
-    check(rt, alloc, name, &["replay", "f"], file, want);
+    let script = long_script(alloc, "open 1 1 0\n", "try 0 0\n", lines)?;
+    check_file(rt, alloc, "replay", name, script.as_bytes(), want);
     Ok(())
 }
 
@@ -336,9 +308,8 @@ fn check_keys<R: Threads + Wait + Sync + Abort>(
     locks: u16,
 ) -> Result<(), AllocError> {
     let state = state_of_keys(alloc, locks)?;
-    let file = Some(script.as_bytes());
     let want = (state.as_str(), "", 0);
-    check(rt, alloc, script, &["replay", "f"], file, want);
+    check_file(rt, alloc, "replay", script, script.as_bytes(), want);
     Ok(())
 }
 
@@ -414,14 +385,7 @@ fn refused<R: Threads + Wait + Sync + Abort>(
     bytes: &[u8],
     fault: &str,
 ) {
-    check(
-        rt,
-        alloc,
-        name,
-        &["replay", "f"],
-        Some(bytes),
-        ("", fault, 1),
-    );
+    check_file(rt, alloc, "replay", name, bytes, ("", fault, 1));
 }
 
 /// `replay` of a file of so many empty lines says that much.

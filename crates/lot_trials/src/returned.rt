@@ -4,52 +4,50 @@ ghost use Rattle.std.specs.Prelude.{◌≡◌, ◌<◌, length, [], ◌∷◌};
 ghost use Rattle.lot_sync.specs.Lot.{OwnsNone, HasSeen};
 ghost use Rattle.lot_sync.specs.Opened.{IsNamed};
 
-use crate::asserts::{equal, failed, room_for};
-use crate::runs::Turns;
+use crate::asserts::{copies, equal, failed};
+use crate::passes::{open, start};
+use crate::values::Number;
 use lot_sync::{Lot, LotName, Moment, Opened, Pass};
 use std::alloc::Global;
 use std::marker::Brand;
 use std::process::Abort;
 use std::sync::Wait;
 
-/// Leaves so many turns under lock 0.
-fn leave<N: LotName<Turns> + Send, W: Wait>(
+/// Leaves this number under lock 0.
+fn leave<N: LotName<Number> + Send, W: Wait>(
     rt: &W,
-    lot: &Lot<Turns, N>,
-    pass: Pass<Turns, N>,
-    turns: Turns,
-) -> Pass<Turns, N>
+    lot: &Lot<Number, N>,
+    pass: Pass<Number, N>,
+    number: Number,
+) -> Pass<Number, N>
     requires locks { 0 < lot.now.locks }
     requires free { OwnsNone pass }
     ensures thread { result.thread ≡ pass.thread }
     ensures free { OwnsNone result }
-    ensures seen { HasSeen result 0 turns }
+    ensures seen { HasSeen result 0 number }
 {
     let (pass, mut held) = lot.lock(rt, pass, 0);
-    *held.value_mut() = turns;
+    *held.value_mut() = number;
     let (pass, _) = lot.unlock(rt, pass, held, Moment { now: 0, word: 7 });
     pass
 }
 
-/// Starts the lot, leaves so many turns there, and closes it.
-fn returned<N: LotName<Turns> + Send, W: Wait + Abort>(
+/// Starts the lot, leaves this number there, and closes it.
+fn returned<N: LotName<Number> + Send, W: Wait + Abort>(
     rt: &W,
     alloc: Global,
-    opened: Opened<Turns>,
-    turns: Turns,
-) -> Vec<Turns>
+    opened: Opened<Number>,
+    number: Number,
+) -> Vec<Number>
     requires named { IsNamed N.LotName opened }
     requires sizes { (opened.threads ≡ 1) × (length opened.values ≡ 1) }
-    ensures { result.items ≡ turns ∷ [] }
+    ensures { result.items ≡ number ∷ [] }
 {
-    let mut passes = room_for(rt, alloc, 1);
-    let Ok(lot) = opened.start::<N>(alloc) else {
-        failed(rt, "not started")
-    };
+    let (lot, mut passes) = start::<Number, N, W>(rt, alloc, 1, opened);
     let Ok(pass) = lot.register(rt) else {
         failed(rt, "no pass is in")
     };
-    let pass = leave(rt, &lot, pass, turns);
+    let pass = leave(rt, &lot, pass, number);
     passes.push_reserved(pass);
     let (values, _) = lot.close(rt, passes);
     values
@@ -57,15 +55,9 @@ fn returned<N: LotName<Turns> + Send, W: Wait + Abort>(
 
 #[test]
 fn the_value_that_was_left_comes_back(rt: HostRuntime) {
-    let Ok(values) = vec![in rt.alloc(); Turns { taken: 7 }; 1] else {
-        failed(&rt, "no memory")
-    };
-    match Lot::<Turns, Brand>::open(rt.alloc(), 1, values, 0) {
-        Ok(opened) => {
-            let turns = Turns { taken: 3 };
-            let values = returned::<Brand, HostRuntime>(&rt, rt.alloc(), opened, turns);
-            equal(&rt, values[0].taken, 3);
-        }
-        Err(_) => failed(&rt, "not opened"),
-    }
+    let values = copies(&rt, rt.alloc(), Number { n: 7 }, 1);
+    let opened = open(&rt, rt.alloc(), 1, values, 0);
+    let number = Number { n: 3 };
+    let values = returned::<Brand, HostRuntime>(&rt, rt.alloc(), opened, number);
+    equal(&rt, values[0].n, 3);
 }

@@ -3,10 +3,12 @@ ghost use Rattle.std.specs.Prelude.{◌≡◌, ◌<◌, length, IfOk};
 ghost use Rattle.lot_sync.specs.Lot.{OwnsNone};
 ghost use Rattle.lot_sync.specs.Opened.{IsNamed};
 
-use crate::asserts::{equal, failed, is_so};
+use crate::asserts::{copies, equal, failed, is_so};
 use crate::counts::{Count, Gathered, end, free, try_own, word};
-use crate::schedules::{Schedule, follow};
+use crate::many::is_refused;
+use crate::schedules::{Schedule, follow, try_start};
 use crate::steps::{Memory, Step, may_be_refused};
+use crate::waits::on_conds;
 use lot_sync::{Lot, LotName, OpenFault, Opened, Pass, RegisterFault, Released};
 use std::alloc::Global;
 use std::marker::Brand;
@@ -22,14 +24,7 @@ pub(crate) fn on_locks<T: Threads + Wait + Sync + Abort>(
     threads: usize,
     rows: &[(usize, Step)],
 ) {
-    let schedule = Schedule {
-        threads,
-        rows,
-        how: Gathered::Left,
-        waits: (0, 0),
-        memory: Memory::Ample,
-    };
-    follow(rt, alloc, schedule);
+    on_conds(rt, alloc, threads, rows, (0, 0));
 }
 
 static TRIED: [(usize, Step); 7] = [
@@ -470,16 +465,9 @@ const REFUSED: [(usize, usize, usize, OpenFault); 3] = [
 #[test]
 fn bad_limits(rt: HostRuntime) {
     for (threads, locks, conds, want) in REFUSED {
-        let Ok(values) = vec![in rt.alloc(); Count { n: 7 }; locks] else {
-            failed(&rt, "no memory")
-        };
-        match Lot::<Count, Brand>::open(rt.alloc(), threads, values, conds) {
-            Ok(_) => failed(&rt, "opened"),
-            Err((fault, values)) => {
-                equal(&rt, fault, want);
-                equal(&rt, values.len(), locks);
-            }
-        }
+        let values = copies(&rt, rt.alloc(), Count { n: 7 }, locks);
+        let opened = Lot::<Count, Brand>::open(rt.alloc(), threads, values, conds);
+        is_refused(&rt, opened, (want, locks));
     }
 }
 
@@ -491,9 +479,7 @@ fn two_are(rt: &impl Abort, values: &[Count], wanted: (u64, u64)) {
 
 #[test]
 fn an_opening_that_fails_gives_the_values_back_in_order(rt: HostRuntime) {
-    let Ok(mut values) = vec![in rt.alloc(); Count { n: 7 }; 2] else {
-        failed(&rt, "no memory")
-    };
+    let mut values = copies(&rt, rt.alloc(), Count { n: 7 }, 2);
     values[1] = Count { n: 8 };
     match Lot::<Count, Brand>::open(rt.alloc(), 0, values, 0) {
         Ok(_) => failed(&rt, "opened"),
@@ -559,22 +545,13 @@ fn started_and_closed<N: LotName<Count> + Send + Sync, T: Wait + Abort>(
     requires named { IsNamed N.LotName opened }
     requires sizes { (opened.threads ≡ 1) × (0 < length opened.values) }
 {
-    let Ok(passes) = Vec::with_capacity(alloc, 1) else {
-        may_be_refused(rt, memory);
-        return opened.close();
-    };
-    match opened.start::<N>(alloc) {
-        Ok(lot) => {
+    match try_start::<N, T>(rt, alloc, 1, opened, memory) {
+        Ok((lot, passes)) => {
             tried_alone(rt, &lot, memory);
             let (values, _) = end(rt, lot, passes, 1, Gathered::Left);
             values
         }
-        Err((fault, values)) => {
-            passes.destroy_empty();
-            equal(rt, fault, OpenFault::NoMemory);
-            may_be_refused(rt, memory);
-            values
-        }
+        Err(values) => values,
     }
 }
 

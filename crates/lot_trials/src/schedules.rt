@@ -1,5 +1,5 @@
 //! Schedules: what threads do on a lot one after the other, row by row, and what each row leaves.
-ghost use Rattle.std.specs.Prelude.{◌≡◌, ◌≤◌, length, vec_len, vec_capacity};
+ghost use Rattle.std.specs.Prelude.{◌≡◌, ◌≤◌, length, vec_len, vec_capacity, IfOk};
 ghost use Rattle.lot_sync.specs.Opened.{IsNamed};
 ghost use Rattle.lot_trials.specs.Schedules.{HasSizes};
 
@@ -159,17 +159,36 @@ fn follow_on<N: LotName<Count> + Send + Sync, T: Threads + Wait + Sync + Abort>(
     requires sizes { (opened.threads ≡ schedule.threads) × (length opened.values ≡ 14) × (opened.conds ≡ 13)
         × (length opened.permits ≡ 2) }
 {
-    let Ok(passes) = Vec::with_capacity(alloc, schedule.threads) else {
-        may_be_refused(rt, schedule.memory);
-        return opened.close();
+    match try_start::<N, T>(rt, alloc, schedule.threads, opened, schedule.memory) {
+        Ok((lot, passes)) => followed(rt, lot, passes, schedule),
+        Err(values) => values,
+    }
+}
+
+/// Starts the lot, with room for its passes. Where memory is refused, which it may be, the values come back.
+pub(crate) fn try_start<N: LotName<Count> + Send + Sync, T: Abort>(
+    rt: &T,
+    alloc: Global,
+    threads: usize,
+    opened: Opened<Count>,
+    memory: Memory,
+) -> Result<(Lot<Count, N>, Vec<Pass<Count, N>>), Vec<Count>>
+    requires named { IsNamed N.LotName opened }
+    ensures lot { IfOk result (λ r. (r.0.threads ≡ opened.threads) × (r.0.locks ≡ length opened.values)
+        × (r.0.conds ≡ opened.conds) × (r.0.sems ≡ length opened.permits)) }
+    ensures room { IfOk result (λ r. (vec_len r.1 ≡ 0) × (threads ≤ vec_capacity r.1)) }
+{
+    let Ok(passes) = Vec::with_capacity(alloc, threads) else {
+        may_be_refused(rt, memory);
+        return Err(opened.close());
     };
     match opened.start::<N>(alloc) {
-        Ok(lot) => followed(rt, lot, passes, schedule),
+        Ok(lot) => Ok((lot, passes)),
         Err((fault, values)) => {
             passes.destroy_empty();
             equal(rt, fault, OpenFault::NoMemory);
-            may_be_refused(rt, schedule.memory);
-            values
+            may_be_refused(rt, memory);
+            Err(values)
         }
     }
 }

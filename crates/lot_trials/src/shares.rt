@@ -4,8 +4,8 @@ ghost use Rattle.lot_sync.specs.Lot.{OwnsNone, HasShape, HasSeen};
 ghost use Rattle.lot_sync.specs.Opened.{IsNamed};
 ghost use Rattle.lot_trials.specs.Shares.{own_share};
 
-use crate::asserts::{equal, failed, is_so, room_for};
-use crate::passes::enter;
+use crate::asserts::{copies, equal, is_so};
+use crate::passes::{enter, open, start};
 use lot_calls::finish;
 use lot_sync::{Lot, LotName, Moment, Opened, Pass};
 use lot_words::Keeps;
@@ -136,10 +136,7 @@ fn play<N: LotName<Shares> + Send + Sync, T: Wait + Abort>(
     requires named { IsNamed N.LotName opened }
     requires sizes { (opened.threads ≡ 2) × (length opened.values ≡ 1) }
 {
-    let passes = room_for(rt, alloc, 2);
-    let Ok(lot) = opened.start::<N>(alloc) else {
-        failed(rt, "not started")
-    };
+    let (lot, passes) = start::<Shares, N, T>(rt, alloc, 2, opened);
     let zero = enter(rt, &lot);
     let one = enter(rt, &lot);
     let (zero, one, left, found) = come_back(rt, &lot, zero, one);
@@ -155,11 +152,7 @@ fn play<N: LotName<Shares> + Send + Sync, T: Wait + Abort>(
 
 #[test]
 fn what_a_thread_left_of_its_own_is_there(rt: HostRuntime) {
-    let Ok(values) = vec![in rt.alloc(); Shares { zero: 0, one: 0 }; 1] else {
-        failed(&rt, "no memory")
-    };
-    match Lot::<Shares, Brand>::open(rt.alloc(), 2, values, 0) {
-        Ok(opened) => play::<Brand, HostRuntime>(&rt, rt.alloc(), opened),
-        Err(_) => failed(&rt, "not opened"),
-    }
+    let values = copies(&rt, rt.alloc(), Shares { zero: 0, one: 0 }, 1);
+    let opened = open(&rt, rt.alloc(), 2, values, 0);
+    play::<Brand, HostRuntime>(&rt, rt.alloc(), opened);
 }

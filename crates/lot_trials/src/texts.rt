@@ -28,6 +28,60 @@ pub(crate) fn check<R: Threads + Wait + Sync + Abort>(
     same_status(rt, status, want.2, name);
 }
 
+/// What the words print. They end well, and tell no fault.
+pub(crate) fn printed<R: Threads + Wait + Sync + Abort>(
+    rt: &R,
+    alloc: Global,
+    name: &str,
+    words: &[&str],
+) -> Vec<u8> {
+    let file: Option<&[u8]> = None;
+    let (mut out, mut faults) = (Vec::new(alloc), Vec::new(alloc));
+    let status = run_command(rt, alloc, words, file, &mut out, &mut faults);
+    same_status(rt, status, 0, name);
+    same_text(rt, faults.as_slice(), "", name);
+    out
+}
+
+/// Runs the command with this file, and compares what is written and the status.
+pub(crate) fn check_file<R: Threads + Wait + Sync + Abort>(
+    rt: &R,
+    alloc: Global,
+    command: &str,
+    name: &str,
+    file: &[u8],
+    want: (&str, &str, u8),
+) {
+    check(rt, alloc, name, &[command, "f"], Some(file), want);
+}
+
+/// The same with each script as its file.
+pub(crate) fn check_scripts<R: Threads + Wait + Sync + Abort>(
+    rt: &R,
+    alloc: Global,
+    command: &str,
+    rows: &[(&str, &str, &str, &str, u8)],
+) {
+    for (name, script, out, faults, status) in rows {
+        let want = (*out, *faults, *status);
+        check_file(rt, alloc, command, name, script.as_bytes(), want);
+    }
+}
+
+/// A script of its first line and then another, so many times.
+pub(crate) fn long_script(
+    alloc: Global,
+    opening: &str,
+    line: &str,
+    lines: u32,
+) -> Result<String, AllocError> {
+    let mut script = String::from_str(alloc, opening)?;
+    for _ in 0..lines {
+        script.push_str(line)?;
+    }
+    Ok(script)
+}
+
 /// Runs the words of each row, which are no command line.
 pub(crate) fn check_refusals<R: Threads + Wait + Sync + Abort>(
     rt: &R,
@@ -48,6 +102,17 @@ pub(crate) fn check_runs<R: Threads + Wait + Sync + Abort>(
 ) {
     for (name, words, out) in rows {
         check(rt, alloc, name, words, None, (*out, "", 0));
+    }
+}
+
+/// The same ten times, since threads take other turns each time.
+fn check_runs_often<R: Threads + Wait + Sync + Abort>(
+    rt: &R,
+    alloc: Global,
+    rows: &[(&str, &[&str], &str)],
+) {
+    for _ in 0..10u8 {
+        check_runs(rt, alloc, rows);
     }
 }
 
@@ -109,12 +174,7 @@ static COMMANDS: [&str; 7] = [
 
 #[test]
 fn help_tells_each_command(rt: HostRuntime) {
-    let file: Option<&[u8]> = None;
-    let (mut out, mut faults) = (Vec::new(rt.alloc()), Vec::new(rt.alloc()));
-    let words = ["--help"];
-    let status = run_command(&rt, rt.alloc(), &words, file, &mut out, &mut faults);
-    same_status(&rt, status, 0, "help");
-    same_text(&rt, faults.as_slice(), "", "help");
+    let out = printed(&rt, rt.alloc(), "help", &["--help"]);
     let Ok(text) = str::from_utf8(out.as_slice()) else {
         failed(&rt, "help is no text")
     };
@@ -164,9 +224,7 @@ static COUNTS: [(&str, &[&str], &str); 7] = [
 
 #[test]
 fn all_rounds_are_counted(rt: HostRuntime) {
-    for _ in 0..10u8 {
-        check_runs(&rt, rt.alloc(), &COUNTS);
-    }
+    check_runs_often(&rt, rt.alloc(), &COUNTS);
 }
 
 static RELAYS: [(&str, &[&str], &str); 6] = [
@@ -204,9 +262,7 @@ static RELAYS: [(&str, &[&str], &str); 6] = [
 
 #[test]
 fn all_numbers_are_relayed(rt: HostRuntime) {
-    for _ in 0..10u8 {
-        check_runs(&rt, rt.alloc(), &RELAYS);
-    }
+    check_runs_often(&rt, rt.alloc(), &RELAYS);
 }
 
 static POOLS: [(&str, &[&str], &str); 4] = [
@@ -247,9 +303,7 @@ static WRONG_POOLS: [(&str, &[&str]); 6] = [
 #[test]
 fn permits_are_shared(rt: HostRuntime) {
     check_refusals(&rt, rt.alloc(), &WRONG_POOLS);
-    for _ in 0..10u8 {
-        check_runs(&rt, rt.alloc(), &POOLS);
-    }
+    check_runs_often(&rt, rt.alloc(), &POOLS);
 }
 
 /// As many threads as there may be.

@@ -4,6 +4,7 @@ ghost use Rattle.lot_sync.specs.Lot.{PassView, rested};
 ghost use Rattle.lot_sync.specs.Opened.{IsNamed};
 
 use crate::asserts::{equal, failed, is_so, room_for, started};
+use crate::passes::{open, start};
 use lot_calls::finish;
 use lot_sync::{Lot, LotName, Moment, Opened};
 use lot_words::Keeps;
@@ -112,10 +113,7 @@ fn play<V: Visited + Send, N: LotName<V> + Send + Sync, T: Threads + Wait + Sync
     requires sizes { (opened.threads ≡ 2) × (0 < length opened.values) }
     requires rests { (p : PassView V) → V.rests (rested p) }
 {
-    let passes = room_for(rt, alloc, 2);
-    let Ok(lot) = opened.start::<N>(alloc) else {
-        failed(rt, "not started")
-    };
+    let (lot, passes) = start::<V, N, T>(rt, alloc, 2, opened);
     two_visit(rt, &lot);
     finish(rt, lot, passes).0
 }
@@ -128,9 +126,7 @@ fn on_visits<T: Threads + Wait + Sync + Abort>(
 ) -> Vec<Visits> {
     let mut values = room_for(rt, alloc, 1);
     values.push_reserved(visits);
-    let Ok(opened) = Lot::<Visits, Brand>::open(alloc, 2, values, 1) else {
-        failed(rt, "not opened")
-    };
+    let opened = open(rt, alloc, 2, values, 1);
     play::<Visits, Brand, T>(rt, alloc, opened)
 }
 

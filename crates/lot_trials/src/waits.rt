@@ -1,6 +1,7 @@
 //! Threads that wait on a condition and are notified, in the running code: they wait in an order that is made by hand,
 //! and some are held before they sleep.
 
+use crate::asserts::is_so;
 use crate::counts::Gathered;
 use crate::schedules::{Schedule, follow};
 use crate::steps::{Memory, Step};
@@ -108,12 +109,8 @@ fn a_wait_lets_go(rt: HostRuntime) {
     on_conds(&rt, rt.alloc(), 2, &LETS_GO, (1, 0));
 }
 
-/// Nobody waits, and then three threads do: one is taken, then the other two, then nobody.
-static THREE_WAIT: [(usize, Step); 27] = [
-    (0, Step::Register(0)),
-    (0, Step::HasWaiters(COND, false)),
-    (0, Step::NotifyOne(COND, 0, false)),
-    (0, Step::NotifyAll(COND, 0)),
+/// Three threads come to wait, one after the other.
+static THREE_COME: [(usize, Step); 12] = [
     (1, Step::Register(1)),
     (1, Step::Lock(0)),
     (1, Step::Wait(COND, 0)),
@@ -126,6 +123,39 @@ static THREE_WAIT: [(usize, Step); 27] = [
     (3, Step::Lock(0)),
     (3, Step::Wait(COND, 0)),
     (0, Step::AwaitLine(COND, 3)),
+];
+
+/// They leave, and so does the one that notified them.
+static FOUR_LEAVE: [(usize, Step); 4] = [
+    (0, Step::Leave),
+    (1, Step::Leave),
+    (2, Step::Leave),
+    (3, Step::Leave),
+];
+
+/// Makes the first rows; then three threads come to wait, the other rows notify all of them, and all leave.
+fn on_three_waits<T: Threads + Wait + Sync + Abort>(
+    rt: &T,
+    alloc: Global,
+    first: &[(usize, Step)],
+    then: &[(usize, Step)],
+) {
+    let mut rows = Vec::new(alloc);
+    for part in [first, THREE_COME.as_slice(), then, FOUR_LEAVE.as_slice()] {
+        is_so(rt, rows.extend_from_slice(part).is_ok(), "there is memory");
+    }
+    on_conds(rt, alloc, 4, rows.as_slice(), (3, 0));
+}
+
+static NOBODY_WAITS: [(usize, Step); 4] = [
+    (0, Step::Register(0)),
+    (0, Step::HasWaiters(COND, false)),
+    (0, Step::NotifyOne(COND, 0, false)),
+    (0, Step::NotifyAll(COND, 0)),
+];
+
+/// One is taken, then the other two, then nobody.
+static ONE_AND_ALL: [(usize, Step); 7] = [
     (0, Step::HasWaiters(COND, true)),
     (0, Step::NotifyOne(COND, 0, true)),
     (0, Step::Line(COND, 2)),
@@ -133,74 +163,39 @@ static THREE_WAIT: [(usize, Step); 27] = [
     (0, Step::HasWaiters(COND, false)),
     (0, Step::NotifyOne(COND, 0, false)),
     (0, Step::NotifyAll(COND, 0)),
-    (0, Step::Leave),
-    (1, Step::Leave),
-    (2, Step::Leave),
-    (3, Step::Leave),
 ];
 
 #[test]
 fn waits_are_notified(rt: HostRuntime) {
-    on_conds(&rt, rt.alloc(), 4, &THREE_WAIT, (3, 0));
+    on_three_waits(&rt, rt.alloc(), &NOBODY_WAITS, &ONE_AND_ALL);
 }
 
-/// Three threads wait and all are taken at once; then nobody waits.
-static THREE_AT_ONCE: [(usize, Step); 21] = [
-    (0, Step::Register(0)),
-    (1, Step::Register(1)),
-    (1, Step::Lock(0)),
-    (1, Step::Wait(COND, 0)),
-    (0, Step::AwaitLine(COND, 1)),
-    (2, Step::Register(2)),
-    (2, Step::Lock(0)),
-    (2, Step::Wait(COND, 0)),
-    (0, Step::AwaitLine(COND, 2)),
-    (3, Step::Register(3)),
-    (3, Step::Lock(0)),
-    (3, Step::Wait(COND, 0)),
-    (0, Step::AwaitLine(COND, 3)),
+/// The one that notifies registers, before anybody waits.
+static ONE_COMES: [(usize, Step); 1] = [(0, Step::Register(0))];
+
+/// All are taken at once; then nobody waits.
+static ALL_AT_ONCE: [(usize, Step); 4] = [
     (0, Step::HasWaiters(COND, true)),
     (0, Step::NotifyAll(COND, 3)),
     (0, Step::HasWaiters(COND, false)),
     (0, Step::NotifyAll(COND, 0)),
-    (0, Step::Leave),
-    (1, Step::Leave),
-    (2, Step::Leave),
-    (3, Step::Leave),
 ];
 
 #[test]
 fn three_waits_are_notified_at_once(rt: HostRuntime) {
-    on_conds(&rt, rt.alloc(), 4, &THREE_AT_ONCE, (3, 0));
+    on_three_waits(&rt, rt.alloc(), &ONE_COMES, &ALL_AT_ONCE);
 }
 
-/// Three threads wait, alone in their bucket: two are taken, then the other one, then nobody.
-static THREE_ARE_TAKEN_BY_COUNT: [(usize, Step); 20] = [
-    (0, Step::Register(0)),
-    (1, Step::Register(1)),
-    (1, Step::Lock(0)),
-    (1, Step::Wait(COND, 0)),
-    (0, Step::AwaitLine(COND, 1)),
-    (2, Step::Register(2)),
-    (2, Step::Lock(0)),
-    (2, Step::Wait(COND, 0)),
-    (0, Step::AwaitLine(COND, 2)),
-    (3, Step::Register(3)),
-    (3, Step::Lock(0)),
-    (3, Step::Wait(COND, 0)),
-    (0, Step::AwaitLine(COND, 3)),
+/// Alone in their bucket, two are taken, then the other one, then nobody.
+static BY_COUNT: [(usize, Step); 3] = [
     (0, Step::NotifySome(COND, 2, (2, true))),
     (0, Step::NotifySome(COND, 5, (1, false))),
     (0, Step::NotifySome(COND, 1, (0, false))),
-    (0, Step::Leave),
-    (1, Step::Leave),
-    (2, Step::Leave),
-    (3, Step::Leave),
 ];
 
 #[test]
 fn waits_are_notified_by_count(rt: HostRuntime) {
-    on_conds(&rt, rt.alloc(), 4, &THREE_ARE_TAKEN_BY_COUNT, (3, 0));
+    on_three_waits(&rt, rt.alloc(), &ONE_COMES, &BY_COUNT);
 }
 
 /// Two conditions in one bucket with a waiting thread each: the flag stays until nobody else is in the bucket, or

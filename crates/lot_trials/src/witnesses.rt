@@ -1,7 +1,7 @@
 //! `lotstress witness`: its texts and statuses.
 
-use crate::texts::check;
-use std::alloc::{AllocError, Global};
+use crate::texts::{check, check_file, check_scripts, long_script};
+use std::alloc::Global;
 use std::process::Abort;
 use std::sync::Wait;
 use std::test::Fail;
@@ -104,15 +104,12 @@ fn judge<R: Threads + Wait + Sync + Abort>(
     witness: &str,
     want: (&str, &str, u8),
 ) {
-    let words = ["witness", "f"];
-    check(rt, alloc, name, &words, Some(witness.as_bytes()), want);
+    check_file(rt, alloc, "witness", name, witness.as_bytes(), want);
 }
 
 #[test]
 fn witnesses_are_judged(rt: HostRuntime) {
-    for (name, witness, out, fault, status) in &WITNESSES {
-        judge(&rt, rt.alloc(), name, witness, (*out, *fault, *status));
-    }
+    check_scripts(&rt, rt.alloc(), "witness", &WITNESSES);
     let want = ("", "cannot read file\n", 1);
     check(
         &rt,
@@ -157,22 +154,15 @@ fn what_an_event_cannot_see_is_no_line(rt: HostRuntime) -> Result<(), Fail> {
     Ok(())
 }
 
-/// A witness of so many lines after the first.
-fn long_witness(alloc: Global, lines: u32) -> Result<String, AllocError> {
-    let mut witness = String::from_str(alloc, "open 1 1 1\n")?;
-    for _ in 0..lines {
-        witness.push_str("look 0 1 false\n")?;
-    }
-    Ok(witness)
-}
-
 #[test]
 fn longest_witnesses(rt: HostRuntime) -> Result<(), Fail> {
     let alloc = rt.alloc();
-    let longest = long_witness(alloc, 99_999)?;
+    let opening = "open 1 1 1\n";
+    let line = "look 0 1 false\n";
+    let longest = long_script(alloc, opening, line, 99_999)?;
     let want = ("events 99999\nwitnessed\n", "", 0);
     judge(&rt, alloc, "longest", longest.as_str(), want);
-    let longer = long_witness(alloc, 100_000)?;
+    let longer = long_script(alloc, opening, line, 100_000)?;
     let want = ("", "bad script line 100001\n", 1);
     judge(&rt, alloc, "a line too many", longer.as_str(), want);
     Ok(())

@@ -1,14 +1,8 @@
+use Rattle.lot_sync.proofs.Naming.{table_name, lot_name}
 use Rattle.lot_trials.proofs.accounts.on_account.Given as goal
 
 abbrev pub ghosts-open_and_move-N-Name : goal.ghosts-open_and_move-N-Name
-ghosts-open_and_move-N-Name g a = record { opening = a.opened.opening }
+ghosts-open_and_move-N-Name g a = table_name a.opened
 
 abbrev pub ghosts-open_and_move-N-LotName : goal.ghosts-open_and_move-N-LotName
-ghosts-open_and_move-N-LotName g a = record {
-  first_sem = a.opened.first_sem;
-  permits = a.opened.permits;
-  locks = a.opened.locks;
-  conds = a.opened.conds;
-  threads = a.opened.threads;
-  values = a.opened.values;
-}
+ghosts-open_and_move-N-LotName g a = lot_name a.opened

@@ -1,6 +1,6 @@
 use Rattle.std.proofs.Common.{◌≡◌, length, vec_len, rules, sym, ap, subst, ◌∙◌}
 use Rattle.std.specs.List.{All}
-use Rattle.lot_sync.specs.Lot.{PassView, LotNames, OwnsNone}
+use Rattle.lot_sync.specs.Lot.{PassView, OwnsNone}
 use Rattle.lot_sync.specs.Closing.{HasOneRun}
 use Rattle.lot_trials.specs.declared.counts.Count.{Count}
 use Rattle.lot_trials.proofs.Counting.{alone, one_free}
@@ -22,15 +22,6 @@ returns g c =
     let none : length before.items ≡ 0 = let n : length before.items ≡ vec_len before = search rules in n ∙ c.requires.room.0 in
     let all = alone before.items c.push_reserved.new.self.items noted none c.push_reserved.ensures.items in
     let same = ap (λ (v : PassView Count). v.thread) c.note_contention-pass.ensures.pass in
-    let names : LotNames Count = record {
-      opening = g.N.Name.opening;
-      first_sem = g.N.LotName.first_sem;
-      permits = g.N.LotName.permits;
-      locks = g.N.LotName.locks;
-      conds = g.N.LotName.conds;
-      threads = g.N.LotName.threads;
-      values = g.N.LotName.values;
-    } in
-    told_of names c.args.pass noted 1 c.note_contention-pass.result.1 c.counts_follow.ensures same
+    told_of _ c.args.pass noted 1 c.note_contention-pass.result.1 c.counts_follow.ensures same
     c.note_contention-pass.ensures.made
-    (subst (HasOneRun names) all c.close_counted.ensures.counted.0)
+    (subst (HasOneRun _) all c.close_counted.ensures.counted.0)

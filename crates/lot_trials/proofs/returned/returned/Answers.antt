@@ -6,9 +6,9 @@ pub returns : goal.returns
 returns g c =
     let values = c.close-values.result.0 in
     let long : length values.items ≡ 1 = search rules in
-    let before = c.room_for-passes.result in
+    let before = c.start-lot.result.1 in
     let none : length before.items ≡ 0 = search rules in
     let last = c.leave-pass.result in
-    only_value values.items c.push_reserved.new.self.items last c.args.turns long
+    only_value values.items c.push_reserved.new.self.items last c.args.number long
     (alone before.items c.push_reserved.new.self.items last none c.push_reserved.ensures.items) c.close-values.ensures.seen
     c.leave-pass.ensures.seen

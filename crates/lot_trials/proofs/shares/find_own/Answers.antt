@@ -11,8 +11,7 @@ unlock-pass-requires-clause-back g c κs within =
 
 pub returns-clause-free : goal.returns-clause-free
 returns-clause-free g c =
-    owns_none_again c.args.pass c.lock-pass.result.0 c.unlock-pass.result.0 0 c.lock-pass.result.1.key c.lock-pass.result.1.value
-    c.lock-pass.result.1.value
+    owns_none_again c.args.pass c.lock-pass.result.0 c.unlock-pass.result.0 0 _ c.lock-pass.result.1.value _
     c.requires.free c.lock-pass.ensures.gets.after_is c.unlock-pass.ensures.pass c.lock-pass.ensures.gets.key_is
 
 pub returns-clause-found : goal.returns-clause-found
