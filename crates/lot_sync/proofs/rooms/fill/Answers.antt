@@ -22,7 +22,8 @@ loop-right-preserved g c =
     let less = c.take_last.ensures.len in
     let fewer = c.in-Some.ensures.len in
     record {
-      fresh = (all_popped (IsNewPass g.V.Keeps.grows (names_of g.N.Name g.N.LotName)) c.loop-right.passes.items c.pop.new.self.items c.in-Some.right c.in-Some.ensures.items inv.fresh).0;
+      fresh = (all_popped (IsNewPass g.V.Keeps.grows (names_of g.N.Name g.N.LotName)) c.loop-right.passes.items
+          c.pop.new.self.items c.in-Some.right c.in-Some.ensures.items inv.fresh).0;
       none = (all_popped (λ t. AreZeros g.N.LotName.conds t.value) c.loop-right.tallies.items c.take_last.new.self.items
           c.take_last.result c.take_last.ensures.items inv.none).0;
       both = omega (arith, both, less, fewer);

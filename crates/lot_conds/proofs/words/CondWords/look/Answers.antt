@@ -9,7 +9,8 @@ use Rattle.lot_conds.proofs.words.CondWords.look.Goals as goal
 pub load-pass-requires-clause-allows : goal.load-pass-requires-clause-allows
 load-pass-requires-clause-allows c =
     let key = c.args.key in
-    pass_at_word (λ (z : CondWordsShown). meaning z.size) c.self.view_is (λ z. IsAmongConds z.size.locks z.size.conds key) c.requires.key (word_at key) c.word_of_key.ensures
+    pass_at_word (λ (z : CondWordsShown). meaning z.size) c.self.view_is (λ z. IsAmongConds z.size.locks z.size.conds key) c.requires.key
+    (word_at key) c.word_of_key.ensures
     (λ n. n) c.args.pass (Looks c.args.pass key)
     (λ z among. looks z.size c.args.pass key among c.requires.calm)
 

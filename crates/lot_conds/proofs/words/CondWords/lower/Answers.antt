@@ -9,7 +9,8 @@ use Rattle.lot_conds.proofs.words.CondWords.lower.Goals as goal
 pub store-requires-clause-allows : goal.store-requires-clause-allows
 store-requires-clause-allows c =
     let key = c.args.key in
-    pass_at_word (λ (z : CondWordsShown). meaning z.size) c.self.view_is (λ z. IsAmongConds z.size.locks z.size.conds key) c.requires.key (word_at key) c.word_of_key.ensures
+    pass_at_word (λ (z : CondWordsShown). meaning z.size) c.self.view_is (λ z. IsAmongConds z.size.locks z.size.conds key) c.requires.key
+    (word_at key) c.word_of_key.ensures
     (λ _. 0) c.args.pass (λ _. Lowers c.args.pass key)
     (λ z among. lowers z.size c.args.pass key among c.requires.calm)
 

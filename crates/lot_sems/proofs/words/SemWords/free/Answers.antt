@@ -14,7 +14,8 @@ use Rattle.lot_sems.proofs.words.SemWords.free.Goals as goal
 pub load-pass-requires-clause-allows : goal.load-pass-requires-clause-allows
 load-pass-requires-clause-allows c =
     let key = c.args.key in
-    pass_at_word (λ (z : SemWordsShown). meaning z.size) c.self.view_is (λ z. IsAmong z.size key) c.requires.key (word_at key) c.word_of_key-word.ensures
+    pass_at_word (λ (z : SemWordsShown). meaning z.size) c.self.view_is (λ z. IsAmong z.size key) c.requires.key
+    (word_at key) c.word_of_key-word.ensures
     (λ n. n) c.args.pass (Found c.args.pass key)
     (λ z. looks z.size c.args.pass key)
 
@@ -26,7 +27,8 @@ compare_exchange-pass-requires-clause-allows c =
     let seen = c.load-pass.result.1 in
     let may = after_look p r key seen c.load-pass.ensures.told (λ own. MayGive own key) c.requires.may in
     let clear : IsUnmarked seen = omega (arith, and_mask seen 1, c.if-seen-ne0.false) in
-    pass_at_word (λ (z : SemWordsShown). meaning z.size) c.self.view_is (λ z. IsAmong z.size key) c.requires.key (word_at key) c.word_of_key-word.ensures
+    pass_at_word (λ (z : SemWordsShown). meaning z.size) c.self.view_is (λ z. IsAmong z.size key) c.requires.key
+    (word_at key) c.word_of_key-word.ensures
     (λ n. either (n == seen) ((seen + 2) % 2 ^ 64) n) r (Swaps r key (one_permit_less r.own key) (SemFree r.thread key) seen)
     (λ z among. frees z.size r key among may seen clear)
 

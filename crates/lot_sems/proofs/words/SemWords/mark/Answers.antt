@@ -11,7 +11,8 @@ use Rattle.lot_sems.proofs.words.SemWords.mark.Goals as goal
 pub compare_exchange-pass-requires-clause-allows : goal.compare_exchange-pass-requires-clause-allows
 compare_exchange-pass-requires-clause-allows c =
     let key = c.args.key in
-    pass_at_word (λ (z : SemWordsShown). meaning z.size) c.self.view_is (λ z. IsAmong z.size key) c.requires.key (word_at key) c.word_of_key-word.ensures
+    pass_at_word (λ (z : SemWordsShown). meaning z.size) c.self.view_is (λ z. IsAmong z.size key) c.requires.key
+    (word_at key) c.word_of_key-word.ensures
     (λ n. either (n == 0) 1 n) c.args.pass (Marks c.args.pass key)
     (λ z among. marks z.size c.args.pass key among c.requires.seeks)
 

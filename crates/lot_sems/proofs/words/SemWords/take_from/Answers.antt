@@ -15,8 +15,10 @@ pub compare_exchange-pass-requires-clause-allows : goal.compare_exchange-pass-re
 compare_exchange-pass-requires-clause-allows c =
     let key = c.args.key in
     let seen = c.args.seen in
-    pass_at_word (λ (z : SemWordsShown). meaning z.size) c.self.view_is (λ z. IsAmong z.size key) c.requires.key (word_at key) c.word_of_key.ensures
-    (λ n. either (n == seen) (seen - 2) n) c.args.pass (Swaps c.args.pass key (one_permit_more c.args.pass.own key) (SemTake c.args.pass.thread key) seen)
+    pass_at_word (λ (z : SemWordsShown). meaning z.size) c.self.view_is (λ z. IsAmong z.size key) c.requires.key
+    (word_at key) c.word_of_key.ensures
+    (λ n. either (n == seen) (seen - 2) n) c.args.pass
+    (Swaps c.args.pass key (one_permit_more c.args.pass.own key) (SemTake c.args.pass.thread key) seen)
     (λ z among. swaps z.size c.args.pass key among c.requires.may seen c.requires.left)
 
 pub returns-clause-entry : goal.returns-clause-entry

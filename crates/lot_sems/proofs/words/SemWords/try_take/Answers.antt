@@ -11,7 +11,8 @@ use Rattle.lot_sems.proofs.words.SemWords.try_take.Goals as goal
 pub load-pass-requires-clause-allows : goal.load-pass-requires-clause-allows
 load-pass-requires-clause-allows c =
     let key = c.args.key in
-    pass_at_word (λ (z : SemWordsShown). meaning z.size) c.self.view_is (λ z. IsAmong z.size key) c.requires.key (word_at key) c.word_of_key.ensures
+    pass_at_word (λ (z : SemWordsShown). meaning z.size) c.self.view_is (λ z. IsAmong z.size key) c.requires.key
+    (word_at key) c.word_of_key.ensures
     (λ n. n) c.args.pass (Found c.args.pass key)
     (λ z. looks z.size c.args.pass key)
 

@@ -16,7 +16,8 @@ compare_exchange-pass-requires-clause-allows g c =
     let key = c.args.key in
     let seen = c.args.seen in
     pass_at_word (lot_of g.V.Keeps) c.self.view_is (λ z. IsKeyIn z.size sem key) c.requires.key (word_at key) c.word_of_key.ensures
-    (λ n. either (n == seen) (seen - 2) n) c.args.pass (Swaps c.args.pass key (one_permit_more c.args.pass.own.sems key) (SemTake c.args.pass.thread key) seen)
+    (λ n. either (n == seen) (seen - 2) n) c.args.pass
+    (Swaps c.args.pass key (one_permit_more c.args.pass.own.sems key) (SemTake c.args.pass.thread key) seen)
     (λ z among. swaps g.V.Keeps z.size z.values c.args.pass key among c.requires.may seen c.requires.left)
 
 pub returns-clause-entry : goal.returns-clause-entry
