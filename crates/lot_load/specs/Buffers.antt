@@ -1,8 +1,8 @@
 -- What a buffer keeps, how it goes on, and what a put and a take do.
 use Rattle.std.specs.Prelude.{◌≡◌, ◌+◌, ◌<◌, ◌≤◌, ◌++◌, ℕ, List, [], ◌∷◌, length}
-use Rattle.std.proofs.Common.{le_refl, le_trans}
 use Rattle.lot_sync.specs.Lot.{PassView, HeldView}
 use Rattle.lot_sync.specs.Holding.{Holding}
+use Rattle.lot_load.specs.Growing.{NeitherFalls}
 use Rattle.lot_load.specs.declared.buffer.Buffer.{Buffer}
 use Rattle.lot_load.specs.declared.buffer.TakenNumber.{TakenNumber}
 use Rattle.lot_load.specs.declared.buffer.TakenNumber.TheVariants.{Got, Empty, TooMuch}
@@ -17,15 +17,8 @@ pub record IsFilled (buffer : Buffer) : Type 0 where
   pub rest : buffer.taken + length buffer.places.items ≡ buffer.put
 
 -- what was put and taken before is counted still
-pub record HasMoved (old new : Buffer) : Type 0 where
-  pub put : old.put ≤ new.put
-  pub taken : old.taken ≤ new.taken
-
-pub moved_nothing : (x : Buffer) → HasMoved x x
-moved_nothing x = record { put = le_refl x.put; taken = le_refl x.taken }
-
-pub moved_on : (x y z : Buffer) → HasMoved x y → HasMoved y z → HasMoved x z
-moved_on x y z a b = record { put = le_trans a.put b.put; taken = le_trans a.taken b.taken }
+abbrev pub HasMoved : Buffer → Buffer → Type 0
+HasMoved = NeitherFalls (λ buffer. buffer.put) (λ buffer. buffer.taken)
 
 -- the number lies behind all others, and is counted
 pub record IsPut (old : Buffer) (n : ℕ) (new : Buffer) : Type 0 where

@@ -1,7 +1,9 @@
 -- How many workers have a permit, and how the count goes on.
 use Rattle.std.specs.Prelude.{◌≡◌, ◌+◌, ◌-◌, ◌≤◌, min, max}
-use Rattle.std.proofs.Common.{le_refl, le_trans}
+use Rattle.lot_load.specs.Growing.{NeitherFalls}
 use Rattle.lot_load.specs.declared.inside.Inside.{Inside}
+use Rattle.lot_load.specs.declared.inside.Going.{Going}
+use Rattle.lot_load.specs.declared.inside.Going.TheVariants.{In, Out}
 use Rattle.lot_load.specs.Buffers.{most}
 
 -- never more were counted in than the most
@@ -9,15 +11,8 @@ abbrev pub IsBounded : Inside → Type 0
 IsBounded inside = inside.now ≤ inside.most
 
 -- the most that were ever in, and those that were counted out, are counted still
-pub record HasGoneOn (old new : Inside) : Type 0 where
-  pub at_most : old.most ≤ new.most
-  pub done : old.done ≤ new.done
-
-pub went_nowhere : (x : Inside) → HasGoneOn x x
-went_nowhere x = record { at_most = le_refl x.most; done = le_refl x.done }
-
-pub went_on : (x y z : Inside) → HasGoneOn x y → HasGoneOn y z → HasGoneOn x z
-went_on x y z a b = record { at_most = le_trans a.at_most b.at_most; done = le_trans a.done b.done }
+abbrev pub HasGoneOn : Inside → Inside → Type 0
+HasGoneOn = NeitherFalls (λ inside. inside.most) (λ inside. inside.done)
 
 -- one more is in, up to the greatest number
 pub record CountsIn (old new : Inside) : Type 0 where
@@ -30,3 +25,8 @@ pub record CountsOut (old new : Inside) : Type 0 where
   pub now : new.now ≡ old.now - 1
   pub at_most : new.most ≡ old.most
   pub done : new.done ≡ min (old.done + 1) most
+
+-- what is counted of a worker that goes this way
+abbrev pub GoesAs : Going → Inside → Inside → Type 0
+GoesAs In old new = CountsIn old new
+GoesAs Out old new = CountsOut old new

@@ -1,5 +1,6 @@
 pub mod Counters
 pub mod Works
+pub mod Growing
 pub mod Buffers
 pub mod Insides
 pub mod Numbers

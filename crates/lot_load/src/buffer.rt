@@ -18,7 +18,8 @@ pub struct Buffer {
 }
 
 impl Keeps for Buffer {
-    ghost use Rattle.lot_load.specs.Buffers.{IsFilled, HasMoved, moved_nothing, moved_on};
+    ghost use Rattle.lot_load.specs.Growing.{neither_falls_itself, neither_falls_on};
+    ghost use Rattle.lot_load.specs.Buffers.{IsFilled, HasMoved};
 
     type Part = ();
 
@@ -28,9 +29,9 @@ impl Keeps for Buffer {
 
     ghost part = { λ thread buffer. tt };
 
-    ghost grows_itself = { moved_nothing };
+    ghost grows_itself = { neither_falls_itself (λ buffer. buffer.put) (λ buffer. buffer.taken) };
 
-    ghost grows_on = { moved_on };
+    ghost grows_on = { neither_falls_on (λ buffer. buffer.put) (λ buffer. buffer.taken) };
 }
 
 /// What a `take` answers.

@@ -1,11 +1,15 @@
 //! The command line: what is run, what is written where, and with which status it ends.
+ghost use Rattle.std.specs.Prelude.{◌≤◌, IfSome};
+ghost use Rattle.lot_load.specs.declared.spread.TheConstants.{MOST_LOCKS};
 
 use crate::contend::contend;
 use crate::count::{Counting, count};
-use crate::many::{MOST_LOCKS, Spreading, many};
+use crate::gate::OpenGate;
+use crate::many::many;
 use crate::pool::{Pooling, pool};
 use crate::relay::{Relaying, relay};
 use crate::replay::replay;
+use crate::spread::{MOST_LOCKS, Spreading};
 use crate::witness::witness;
 use lot_command::{Failure, number, report, text_of};
 use lot_core::{MAX_KEYS, MAX_THREADS};
@@ -79,43 +83,32 @@ fn answer_of<F: Read + Drop>(alloc: Global, command: &str, file: F) -> Result<St
 }
 
 fn run<T: Threads + Wait + Sync>(rt: &T, alloc: Global, words: &[&str]) -> Result<String, Failure> {
+    let bad = Failure::BadCommandLine;
     let [command, numbers @ ..] = words else {
-        return Err(Failure::BadCommandLine);
+        return Err(bad);
     };
     match *command {
-        "count" => match counting(numbers) {
-            Some(counting) => count(rt, alloc, &counting),
-            None => Err(Failure::BadCommandLine),
-        },
-        "relay" => match relaying(numbers) {
-            Some(relaying) => relay(rt, alloc, &relaying),
-            None => Err(Failure::BadCommandLine),
-        },
-        "pool" => match pooling(numbers) {
-            Some(pooling) => pool(rt, alloc, &pooling),
-            None => Err(Failure::BadCommandLine),
-        },
-        "many" => match spreading(numbers) {
-            Some(spreading) => many(rt, alloc, &spreading),
-            None => Err(Failure::BadCommandLine),
-        },
-        "contend" => match counting(numbers) {
-            Some(counting) => contend(rt, alloc, &counting),
-            None => Err(Failure::BadCommandLine),
-        },
-        _ => Err(Failure::BadCommandLine),
+        "count" => count(rt, alloc, &OpenGate, &counting(numbers).ok_or(bad)?),
+        "relay" => relay(rt, alloc, &OpenGate, &relaying(numbers).ok_or(bad)?),
+        "pool" => pool(rt, alloc, &OpenGate, &pooling(numbers).ok_or(bad)?),
+        "many" => many(rt, alloc, &spreading(numbers, MOST_LOCKS).ok_or(bad)?),
+        "contend" => contend(rt, alloc, &spreading(numbers, MAX_KEYS).ok_or(bad)?),
+        _ => Err(bad),
     }
 }
 
 fn counting(numbers: &[&str]) -> Option<Counting> {
-    let [threads, locks, rounds, seed] = numbers else {
-        return None;
-    };
+    let Spreading {
+        threads,
+        locks,
+        rounds,
+        seed,
+    } = spreading(numbers, MAX_KEYS)?;
     Some(Counting {
-        threads: number(threads, 1, MAX_THREADS as u64)? as usize,
-        locks: number(locks, 1, MAX_KEYS as u64)? as usize,
-        rounds: number(rounds, 0, MAX_ROUNDS)?,
-        seed: number(seed, 0, u64::MAX)?,
+        threads,
+        locks,
+        rounds,
+        seed,
     })
 }
 
@@ -142,13 +135,17 @@ fn pooling(numbers: &[&str]) -> Option<Pooling> {
     })
 }
 
-fn spreading(numbers: &[&str]) -> Option<Spreading> {
+/// With at most so many locks.
+fn spreading(numbers: &[&str], most: usize) -> Option<Spreading>
+    requires { most ≤ MOST_LOCKS }
+    ensures { IfSome result (λ spreading. spreading.locks ≤ most) }
+{
     let [threads, locks, rounds, seed] = numbers else {
         return None;
     };
     Some(Spreading {
         threads: number(threads, 1, MAX_THREADS as u64)? as usize,
-        locks: number(locks, 1, MOST_LOCKS as u64)? as usize,
+        locks: number(locks, 1, most as u64)? as usize,
         rounds: number(rounds, 0, MAX_ROUNDS)?,
         seed: number(seed, 0, u64::MAX)?,
     })

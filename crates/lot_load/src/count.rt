@@ -7,12 +7,12 @@ ghost use Rattle.lot_load.specs.Counters.{AllLegal};
 ghost use Rattle.lot_load.specs.Works.{WorksOn};
 
 use crate::counter::{Add, Counter};
-use crate::gate::{Gate, OpenGate, Point};
-use crate::workers::{moment, outcome};
-use lot_calls::{finish, leave_all, start_with_passes, work_together};
+use crate::gate::{Gate, Point};
+use crate::workers::{end, moment, open, outcome};
+use lot_calls::{start_with_passes, work_together};
 use lot_command::{Failure, report};
 use lot_journal::Journal;
-use lot_sync::{Held, Lot, LotName, OpenFault, Opened, Pass};
+use lot_sync::{Held, Lot, LotName, Opened, Pass};
 use lot_words::Keeps;
 use std::alloc::{AllocError, Global};
 use std::fmt::Write as _;
@@ -33,16 +33,7 @@ pub struct Counting {
     ghost locks_fit: { (1 ≤ locks) × (locks ≤ MAX_KEYS) },
 }
 
-/// What each lock counted, printed.
-pub fn count<T: Threads + Wait + Sync>(
-    rt: &T,
-    alloc: Global,
-    counting: &Counting,
-) -> Result<String, Failure> {
-    counted(rt, alloc, &OpenGate, counting)
-}
-
-/// `count` with a gate that can hold the workers; answers the exit status.
+/// `count`, of which the text or the failure is written; answers the exit status.
 pub fn count_with<T: Threads + Wait + Sync, G: Gate + Sync, W: Write, E: Write>(
     rt: &T,
     alloc: Global,
@@ -51,21 +42,19 @@ pub fn count_with<T: Threads + Wait + Sync, G: Gate + Sync, W: Write, E: Write>(
     out: &mut W,
     faults: &mut E,
 ) -> u8 {
-    report(counted(rt, alloc, gate, counting), out, faults)
+    report(count(rt, alloc, gate, counting), out, faults)
 }
 
-fn counted<T: Threads + Wait + Sync, G: Gate + Sync>(
+/// What each lock counted, printed. The gate can hold the workers.
+pub fn count<T: Threads + Wait + Sync, G: Gate + Sync>(
     rt: &T,
     alloc: Global,
     gate: &G,
     counting: &Counting,
 ) -> Result<String, Failure> {
     let journals = new_journals(alloc, counting.locks)?;
-    match Lot::<Journal<Counter>, Brand>::open(alloc, counting.threads, journals, 0) {
-        Ok(opened) => run::<Brand, T, G>(rt, alloc, gate, counting, opened),
-        Err((OpenFault::NoMemory, _)) => Err(Failure::NoMemory),
-        Err(_) => unreachable!(),
-    }
+    let opened = open(alloc, counting.threads, journals, 0, &[])?;
+    run::<Brand, T, G>(rt, alloc, gate, counting, opened)
 }
 
 /// An empty journal for each lock.
@@ -103,8 +92,7 @@ fn run<N: LotName<Journal<Counter>> + Send + Sync, T: Threads + Wait + Sync, G: 
         ensures { OwnsNone result }
     { work(rt, &lot, gate, counting, &refused, pass) };
     let (passes, worked) = work_together(rt, &go, passes);
-    let room = leave_all(rt, &lot, passes);
-    let (journals, _) = finish(rt, lot, room);
+    let (journals, _) = end(rt, lot, passes);
     outcome(worked, refused.load(Ordering::SeqCst))?;
     print(alloc, journals.as_slice())
 }
@@ -116,14 +104,13 @@ fn work<N: LotName<Journal<Counter>> + Send + Sync, T: Wait, G: Gate>(
     gate: &G,
     counting: &Counting,
     refused: &AtomicBool,
-    pass: Pass<Journal<Counter>, N>,
+    mut pass: Pass<Journal<Counter>, N>,
 ) -> Pass<Journal<Counter>, N>
     requires sizes { (lot.now.threads ≡ counting.now.threads) × (lot.now.locks ≡ counting.now.locks) }
     requires free { OwnsNone pass }
     ensures { OwnsNone result }
 {
     let worker = pass.thread();
-    let mut pass = pass;
     for round in 0..counting.rounds {
         let (gone, called) = go_round(rt, lot, gate, counting, worker, round, pass);
         pass = gone;

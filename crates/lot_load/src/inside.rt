@@ -1,8 +1,15 @@
 //! What the lock of `pool` guards: how many workers have a permit.
 ghost use Rattle.std.specs.Prelude.{◌≡◌};
-ghost use Rattle.lot_load.specs.Insides.{IsBounded, CountsIn, CountsOut};
+ghost use Rattle.lot_load.specs.Insides.{IsBounded, HasGoneOn, GoesAs};
 
 use lot_words::Keeps;
+
+/// Which way a worker goes.
+#[derive(Clone, Copy)]
+pub enum Going {
+    In,
+    Out,
+}
 
 /// How many workers are counted in, the most that ever were at a time, and how many were counted out again.
 #[derive(Drop)]
@@ -13,7 +20,8 @@ pub struct Inside {
 }
 
 impl Keeps for Inside {
-    ghost use Rattle.lot_load.specs.Insides.{IsBounded, HasGoneOn, went_nowhere, went_on};
+    ghost use Rattle.lot_load.specs.Growing.{neither_falls_itself, neither_falls_on};
+    ghost use Rattle.lot_load.specs.Insides.{IsBounded, HasGoneOn};
 
     type Part = ();
 
@@ -23,9 +31,9 @@ impl Keeps for Inside {
 
     ghost part = { λ thread inside. tt };
 
-    ghost grows_itself = { went_nowhere };
+    ghost grows_itself = { neither_falls_itself (λ inside. inside.most) (λ inside. inside.done) };
 
-    ghost grows_on = { went_on };
+    ghost grows_on = { neither_falls_on (λ inside. inside.most) (λ inside. inside.done) };
 }
 
 impl Inside {
@@ -41,21 +49,22 @@ impl Inside {
         }
     }
 
-    /// Counts a worker in.
-    pub fn count_in(&mut self)
+    /// Counts a worker in, or out again.
+    pub fn count(&mut self, going: Going)
         requires { IsBounded self.old }
-        ensures { CountsIn self.old self.new }
+        ensures counted { GoesAs going self.old self.new }
+        ensures kept { IsBounded self.new }
+        ensures grown { HasGoneOn self.old self.new }
     {
-        self.now = self.now.saturating_add(1);
-        self.most = self.most.max(self.now);
-    }
-
-    /// Counts a worker out again.
-    pub fn count_out(&mut self)
-        requires { IsBounded self.old }
-        ensures { CountsOut self.old self.new }
-    {
-        self.now = self.now.saturating_sub(1);
-        self.done = self.done.saturating_add(1);
+        match going {
+            Going::In => {
+                self.now = self.now.saturating_add(1);
+                self.most = self.most.max(self.now);
+            }
+            Going::Out => {
+                self.now = self.now.saturating_sub(1);
+                self.done = self.done.saturating_add(1);
+            }
+        }
     }
 }

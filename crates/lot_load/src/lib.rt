@@ -27,6 +27,7 @@ pub mod measure;
 mod pool;
 pub mod relay;
 mod replay;
+mod spread;
 mod witness;
 pub mod workers;
 

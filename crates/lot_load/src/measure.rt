@@ -24,6 +24,7 @@ pub mod crew;
 mod fair;
 pub mod keys;
 mod meeting;
+mod member;
 pub mod plan;
 mod relay;
 mod rounds;

@@ -4,14 +4,13 @@ ghost use Rattle.lot_core.specs.declared.state.TheConstants.{MAX_THREADS};
 ghost use Rattle.lot_sync.specs.Lot.{Owns, OwnsNone};
 ghost use Rattle.lot_sync.specs.Opened.{IsNamed};
 
-use crate::gate::{Gate, OpenGate, Point};
-use crate::inside::Inside;
-use crate::workers::{moment, outcome, push_lines};
-use lot_calls::{finish, leave_all, start_with_passes, work_together};
-use lot_command::{Failure, report};
-use lot_sync::{Lot, LotName, OpenFault, Opened, Pass};
+use crate::gate::{Gate, Point};
+use crate::inside::{Going, Inside};
+use crate::workers::{end, moment, open, outcome, push_lines};
+use lot_calls::{start_with_passes, work_together};
+use lot_command::Failure;
+use lot_sync::{Lot, LotName, Opened, Pass};
 use std::alloc::Global;
-use std::io::Write;
 use std::marker::Brand;
 use std::sync::Wait;
 use std::thread::Threads;
@@ -32,28 +31,9 @@ pub struct Pooling {
     ghost threads_fit: { (1 ≤ threads) × (threads ≤ MAX_THREADS) },
 }
 
-/// How many rounds were done, and whether never more workers than permits were in, printed.
-pub fn pool<T: Threads + Wait + Sync>(
-    rt: &T,
-    alloc: Global,
-    pooling: &Pooling,
-) -> Result<String, Failure> {
-    pooled(rt, alloc, &OpenGate, pooling)
-}
-
-/// `pool` with a gate that can hold the workers; answers the exit status.
-pub fn pool_with<T: Threads + Wait + Sync, G: Gate + Sync, W: Write, E: Write>(
-    rt: &T,
-    alloc: Global,
-    gate: &G,
-    pooling: &Pooling,
-    out: &mut W,
-    faults: &mut E,
-) -> u8 {
-    report(pooled(rt, alloc, gate, pooling), out, faults)
-}
-
-fn pooled<T: Threads + Wait + Sync, G: Gate + Sync>(
+/// How many rounds were done, and whether never more workers than permits were in, printed. The gate can hold the
+/// workers.
+pub fn pool<T: Threads + Wait + Sync, G: Gate + Sync>(
     rt: &T,
     alloc: Global,
     gate: &G,
@@ -62,11 +42,8 @@ fn pooled<T: Threads + Wait + Sync, G: Gate + Sync>(
     let mut counts = Vec::with_capacity(alloc, 1)?;
     counts.push_reserved(Inside::new());
     let permits = [pooling.permits];
-    match Lot::<Inside, Brand>::open_with(alloc, pooling.threads, counts, 0, &permits) {
-        Ok(opened) => run::<Brand, T, G>(rt, alloc, gate, pooling, opened),
-        Err((OpenFault::NoMemory, _)) => Err(Failure::NoMemory),
-        Err(_) => unreachable!(),
-    }
+    let opened = open(alloc, pooling.threads, counts, 0, &permits)?;
+    run::<Brand, T, G>(rt, alloc, gate, pooling, opened)
 }
 
 /// Starts the lot, lets the workers run, and prints what was counted.
@@ -90,8 +67,7 @@ fn run<N: LotName<Inside> + Send + Sync, T: Threads + Wait + Sync, G: Gate + Syn
         ensures { OwnsNone result }
     { work(rt, &lot, gate, pooling, pass) };
     let (passes, worked) = work_together(rt, &go, passes);
-    let room = leave_all(rt, &lot, passes);
-    let (counts, _) = finish(rt, lot, room);
+    let (counts, _) = end(rt, lot, passes);
     outcome(worked, false)?;
     print(alloc, &counts[0], pooling.permits)
 }
@@ -102,14 +78,13 @@ fn work<N: LotName<Inside> + Send + Sync, T: Wait, G: Gate>(
     lot: &Lot<Inside, N>,
     gate: &G,
     pooling: &Pooling,
-    pass: Pass<Inside, N>,
+    mut pass: Pass<Inside, N>,
 ) -> Pass<Inside, N>
     requires sizes { (lot.now.locks ≡ 1) × (lot.now.conds ≡ 0) × (lot.now.sems ≡ 1) }
     requires free { OwnsNone pass }
     ensures { OwnsNone result }
 {
     let worker = pass.thread();
-    let mut pass = pass;
     for round in 0..pooling.rounds {
         pass = go_round(rt, lot, gate, pooling, worker, round, pass);
     }
@@ -134,17 +109,19 @@ fn go_round<N: LotName<Inside> + Send + Sync, T: Wait, G: Gate>(
     gate.reached(worker, round, Point::BeforeLock);
     let (pass, permit) = lot.acquire(rt, pass, POOL);
     gate.reached(worker, round, Point::Owning);
-    let pass = count_in(rt, lot, pass);
-    let pass = count_out(rt, lot, pass);
+    let pass = count(rt, lot, pass, Going::In);
+    let pass = count(rt, lot, pass, Going::Out);
     gate.reached(worker, round, Point::BeforeRelease);
     let (pass, _) = lot.release(rt, pass, permit, moment);
     pass
 }
 
-fn count_in<N: LotName<Inside> + Send + Sync, T: Wait>(
+/// Counts the worker in, or out again.
+fn count<N: LotName<Inside> + Send + Sync, T: Wait>(
     rt: &T,
     lot: &Lot<Inside, N>,
     pass: Pass<Inside, N>,
+    going: Going,
 ) -> Pass<Inside, N>
     requires sizes { lot.now.locks ≡ 1 }
     requires free { (k : ℕ) → ¬ Owns pass k }
@@ -152,22 +129,7 @@ fn count_in<N: LotName<Inside> + Send + Sync, T: Wait>(
     ensures same { (result.thread ≡ pass.thread) × (result.permits ≡ pass.permits) }
 {
     let (pass, mut held) = lot.lock(rt, pass, COUNT);
-    held.value_mut().count_in();
-    lot.unlock(rt, pass, held, moment(0, 0, 0)).0
-}
-
-fn count_out<N: LotName<Inside> + Send + Sync, T: Wait>(
-    rt: &T,
-    lot: &Lot<Inside, N>,
-    pass: Pass<Inside, N>,
-) -> Pass<Inside, N>
-    requires sizes { lot.now.locks ≡ 1 }
-    requires free { (k : ℕ) → ¬ Owns pass k }
-    ensures free { (k : ℕ) → ¬ Owns result k }
-    ensures same { (result.thread ≡ pass.thread) × (result.permits ≡ pass.permits) }
-{
-    let (pass, mut held) = lot.lock(rt, pass, COUNT);
-    held.value_mut().count_out();
+    held.value_mut().count(going);
     lot.unlock(rt, pass, held, moment(0, 0, 0)).0
 }
 

@@ -6,11 +6,11 @@ ghost use Rattle.lot_sync.specs.Opened.{IsNamed};
 ghost use Rattle.lot_load.specs.Buffers.{HasBuffer};
 
 use crate::buffer::{Buffer, TakenNumber};
-use crate::gate::{Gate, OpenGate, Point};
-use crate::workers::{moment, outcome, push_lines};
-use lot_calls::{finish, leave_all, start_with_passes, work_together};
+use crate::gate::{Gate, Point};
+use crate::workers::{end, moment, open, outcome, push_lines};
+use lot_calls::{start_with_passes, work_together};
 use lot_command::{Failure, report};
-use lot_sync::{Held, Ledger, Lot, LotName, Moment, OpenFault, Opened, Pass};
+use lot_sync::{Held, Ledger, Lot, LotName, Moment, Opened, Pass};
 use std::alloc::Global;
 use std::io::Write;
 use std::marker::Brand;
@@ -56,16 +56,7 @@ impl Relaying {
     }
 }
 
-/// What was put and taken, printed.
-pub fn relay<T: Threads + Wait + Sync>(
-    rt: &T,
-    alloc: Global,
-    relaying: &Relaying,
-) -> Result<String, Failure> {
-    relayed(rt, alloc, &OpenGate, relaying)
-}
-
-/// `relay` with a gate that can hold the workers; answers the exit status.
+/// `relay`, of which the text or the failure is written; answers the exit status.
 pub fn relay_with<T: Threads + Wait + Sync, G: Gate + Sync, W: Write, E: Write>(
     rt: &T,
     alloc: Global,
@@ -74,10 +65,11 @@ pub fn relay_with<T: Threads + Wait + Sync, G: Gate + Sync, W: Write, E: Write>(
     out: &mut W,
     faults: &mut E,
 ) -> u8 {
-    report(relayed(rt, alloc, gate, relaying), out, faults)
+    report(relay(rt, alloc, gate, relaying), out, faults)
 }
 
-fn relayed<T: Threads + Wait + Sync, G: Gate + Sync>(
+/// What was put and taken, printed. The gate can hold the workers.
+pub fn relay<T: Threads + Wait + Sync, G: Gate + Sync>(
     rt: &T,
     alloc: Global,
     gate: &G,
@@ -85,11 +77,8 @@ fn relayed<T: Threads + Wait + Sync, G: Gate + Sync>(
 ) -> Result<String, Failure> {
     let mut buffers = Vec::with_capacity(alloc, 1)?;
     buffers.push_reserved(Buffer::new());
-    match Lot::<Buffer, Brand>::open(alloc, relaying.threads, buffers, 2) {
-        Ok(opened) => run::<Brand, T, G>(rt, alloc, gate, relaying, opened),
-        Err((OpenFault::NoMemory, _)) => Err(Failure::NoMemory),
-        Err(_) => unreachable!(),
-    }
+    let opened = open(alloc, relaying.threads, buffers, 2, &[])?;
+    run::<Brand, T, G>(rt, alloc, gate, relaying, opened)
 }
 
 /// Starts the lot, lets the workers run, and prints what was put and taken.
@@ -112,8 +101,7 @@ fn run<N: LotName<Buffer> + Send + Sync, T: Threads + Wait + Sync, G: Gate + Syn
         ensures { OwnsNone result }
     { work(rt, &lot, gate, relaying, pass) };
     let (passes, worked) = work_together(rt, &go, passes);
-    let room = leave_all(rt, &lot, passes);
-    let (buffers, ledger) = finish(rt, lot, room);
+    let (buffers, ledger) = end(rt, lot, passes);
     outcome(worked, false)?;
     print(alloc, &buffers[0], &ledger)
 }
@@ -156,11 +144,10 @@ struct Relays<'a, N: LotName<Buffer> + Send + Sync, T: Wait, G: Gate> {
 
 impl<N: LotName<Buffer> + Send + Sync, T: Wait, G: Gate> Relays<'_, N, T, G> {
     /// Puts the numbers from 1 on, one in each round.
-    fn produce(&self, worker: usize, pass: Pass<Buffer, N>) -> Pass<Buffer, N>
+    fn produce(&self, worker: usize, mut pass: Pass<Buffer, N>) -> Pass<Buffer, N>
         requires { OwnsNone pass }
         ensures { OwnsNone result }
     {
-        let mut pass = pass;
         for round in 0..self.relaying.rounds {
             let (gone, put) = self.put_next(worker, round, pass);
             pass = gone;
@@ -172,11 +159,10 @@ impl<N: LotName<Buffer> + Send + Sync, T: Wait, G: Gate> Relays<'_, N, T, G> {
     }
 
     /// Takes numbers, one in each round, until all were taken.
-    fn consume(&self, worker: usize, pass: Pass<Buffer, N>) -> Pass<Buffer, N>
+    fn consume(&self, worker: usize, mut pass: Pass<Buffer, N>) -> Pass<Buffer, N>
         requires { OwnsNone pass }
         ensures { OwnsNone result }
     {
-        let mut pass = pass;
         for round in 0..self.relaying.total() {
             let (gone, taken) = self.take_next(worker, round, pass);
             pass = gone;
@@ -193,9 +179,7 @@ impl<N: LotName<Buffer> + Send + Sync, T: Wait, G: Gate> Relays<'_, N, T, G> {
         ensures { OwnsNone result.0 }
     {
         let moment = moment(self.relaying.seed, worker as u64, round);
-        self.gate.reached(worker, round, Point::BeforeLock);
-        let (pass, mut held) = self.get(pass, NOT_FULL, moment);
-        self.gate.reached(worker, round, Point::Owning);
+        let (pass, mut held) = self.get(worker, round, pass, NOT_FULL, moment);
         let put = held.value_mut().put(round.saturating_add(1));
         self.gate.reached(worker, round, Point::BeforeRelease);
         let (pass, _) = self.lot.unlock(self.rt, pass, held, moment);
@@ -209,9 +193,7 @@ impl<N: LotName<Buffer> + Send + Sync, T: Wait, G: Gate> Relays<'_, N, T, G> {
         ensures { OwnsNone result.0 }
     {
         let moment = moment(self.relaying.seed, worker as u64, round);
-        self.gate.reached(worker, round, Point::BeforeLock);
-        let (pass, mut held) = self.get(pass, NOT_EMPTY, moment);
-        self.gate.reached(worker, round, Point::Owning);
+        let (pass, mut held) = self.get(worker, round, pass, NOT_EMPTY, moment);
         let taken = held.value_mut().take();
         let is_last = held.value().taken == self.relaying.total();
         self.gate.reached(worker, round, Point::BeforeRelease);
@@ -235,9 +217,11 @@ impl<N: LotName<Buffer> + Send + Sync, T: Wait, G: Gate> Relays<'_, N, T, G> {
         }
     }
 
-    /// Locks the buffer, and waits on the condition while it has to.
+    /// Locks the buffer, and waits on the condition while it has to. The gate can hold the worker before and after.
     fn get(
         &self,
+        worker: usize,
+        round: u64,
         pass: Pass<Buffer, N>,
         cond: usize,
         moment: Moment,
@@ -246,9 +230,11 @@ impl<N: LotName<Buffer> + Send + Sync, T: Wait, G: Gate> Relays<'_, N, T, G> {
         requires cond { (1 ≤ cond) × (cond < 3) }
         ensures { HasBuffer result.0 result.1 }
     {
+        self.gate.reached(worker, round, Point::BeforeLock);
         let (mut pass, mut held) = self.lot.lock(self.rt, pass, BUFFER);
         for _ in self.rt.forever() {
             if !self.relaying.has_to_wait(held.value(), cond) {
+                self.gate.reached(worker, round, Point::Owning);
                 return (pass, held);
             }
             let (woken, found) = self.lot.wait(self.rt, pass, held, cond, moment);

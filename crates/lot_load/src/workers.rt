@@ -1,12 +1,58 @@
-//! What the commands share that run real threads on a lot: what came of their workers, and the moments of releases.
-ghost use Rattle.std.specs.Prelude.{◌≡◌, Ok, Err, if◌then◌else◌};
+//! What the commands share that run real threads on a lot: how it is opened and ends, what came of their workers, and
+//! the moments of releases.
+ghost use Rattle.std.specs.Prelude.{◌≡◌, ◌≤◌, Ok, Err, if◌then◌else◌, IfOk, length, vec_len, vec_capacity};
+ghost use Rattle.std.specs.List.{All};
+ghost use Rattle.lot_sync.specs.Opened.{KeepAll, IsThreadCount, AreManyKeys};
+ghost use Rattle.lot_calls.specs.Finished.{IsFinished};
+ghost use Rattle.lot_calls.specs.Workers.{MayLeave};
 
+use lot_calls::{finish, leave_all};
 use lot_command::Failure;
-use lot_sync::Moment;
+use lot_sync::{Ledger, Lot, LotName, Moment, OpenFault, Opened, Pass};
+use lot_words::Keeps;
+use std::alloc::Global;
 use std::fmt::Write as _;
+use std::marker::Brand;
+use std::sync::Wait;
 
 /// How much later each round of a worker is than the one before, in nanoseconds. No clock is read.
 const ROUND: u64 = 500_000;
+
+/// Opens a lot as `open_many` does, with numbers of threads and of keys that it allows.
+pub fn open<V: Keeps + Send>(
+    alloc: Global,
+    threads: usize,
+    values: Vec<V>,
+    conds: usize,
+    permits: &[u32],
+) -> Result<Opened<V>, Failure>
+    requires kept { KeepAll V.keeps values.items }
+    requires limits { IsThreadCount threads × AreManyKeys (vec_len values) conds (length permits.now) }
+    ensures { IfOk result (λ o. (o.threads ≡ threads) × (o.values ≡ values.items) × (o.conds ≡ conds)
+        × (o.permits ≡ permits.now)) }
+{
+    match Lot::<V, Brand>::open_many(alloc, threads, values, conds, permits) {
+        Ok(opened) => Ok(opened),
+        Err((OpenFault::NoMemory, _)) => Err(Failure::NoMemory),
+        Err(_) => unreachable!(),
+    }
+}
+
+/// Leaves with each pass, and ends the lot: `leave_all`, and then `finish`.
+pub fn end<V: Keeps + Send, N: LotName<V> + Send, T: Wait>(
+    rt: &T,
+    lot: Lot<V, N>,
+    passes: Vec<Pass<V, N>>,
+) -> (Vec<V>, Ledger)
+    requires leave { All (MayLeave V.Keeps) passes.items }
+    requires room { lot.threads ≤ vec_capacity passes }
+    ensures count { vec_len result.0 ≡ lot.locks }
+    ensures finished { IsFinished V.Keeps N.LotName lot result.0.items result.1.called.items result.1.woken.items }
+    ensures balanced { result.1.called.items ≡ result.1.woken.items }
+{
+    let room = leave_all(rt, &lot, passes);
+    finish(rt, lot, room)
+}
 
 /// What came of workers: whether all could be started, and whether memory was refused to one.
 pub fn outcome(worked: bool, refused: bool) -> Result<(), Failure>

@@ -4,15 +4,13 @@ ghost use Rattle.lot_sync.specs.Lot.{OwnsNone};
 ghost use Rattle.lot_sync.specs.Opened.{IsNamed};
 
 use super::clock::now;
-use super::fair::fair;
 use super::meeting::Meeting;
+use super::member::Member;
 use super::plan::{Job, Plan};
-use super::relay::{Side, take_part};
-use super::rounds::{count, share, take_permits, wait};
+use super::relay::Side;
 use super::summary::{Done, Summary};
 use super::times::Times;
-use super::turns::{notify, take_turns};
-use super::value::Number;
+use super::value::{Number, sum_of};
 use lot_calls::{finish, start_with_room};
 use lot_command::Failure;
 use lot_sync::{Lot, LotName, Opened, Pass};
@@ -53,9 +51,7 @@ fn run_on<N: LotName<Number> + Send + Sync, T: Threads + Wait + Clock + Sync>(
     let done = work_all(rt, alloc, plan, &lot);
     let (values, _) = finish(rt, lot, passes);
     let mut summary = Summary::new(alloc, done?, begin, now(rt))?;
-    for number in values.iter() {
-        summary.sum = summary.sum.wrapping_add(number.n);
-    }
+    summary.sum = sum_of(values.as_slice());
     Ok(summary)
 }
 
@@ -68,12 +64,12 @@ fn work_all<N: LotName<Number> + Send + Sync, T: Threads + Wait + Clock + Sync>(
 ) -> Result<Vec<Option<Done>>, Failure>
     requires { lot.now.locks ≡ plan.now.locks }
 {
-    let meeting = Meeting::new();
     let all = match plan.millis() {
         Some(_) => plan.threads + 1,
         None => plan.threads,
     };
-    let done = map_indices(
+    let meeting = Meeting::new(all as u64);
+    Ok(map_indices(
         rt,
         alloc,
         all,
@@ -82,16 +78,15 @@ fn work_all<N: LotName<Number> + Send + Sync, T: Threads + Wait + Clock + Sync>(
         {
             match plan.millis() {
                 Some(millis) if worker == plan.threads => {
-                    meeting.join(all as u64);
+                    meeting.join();
                     rt.sleep(Duration::from_millis(millis));
                     meeting.end();
                     None
                 }
-                _ => work(rt, alloc, plan, lot, &meeting, all, worker),
+                _ => work(rt, alloc, plan, lot, &meeting, worker),
             }
         },
-    )?;
-    Ok(done)
+    )?)
 }
 
 /// One thread: it registers, meets the others, works, and leaves.
@@ -101,13 +96,12 @@ fn work<N: LotName<Number> + Send, T: Wait + Clock>(
     plan: &Plan,
     lot: &Lot<Number, N>,
     meeting: &Meeting,
-    all: usize,
     worker: usize,
 ) -> Option<Done>
     requires { lot.now.locks ≡ plan.now.locks }
 {
     let registered = lot.register(rt);
-    meeting.join(all as u64);
+    meeting.join();
     let Ok(pass) = registered else {
         return None;
     };
@@ -115,8 +109,14 @@ fn work<N: LotName<Number> + Send, T: Wait + Clock>(
         lot.leave(rt, pass);
         return None;
     };
+    let member = Member {
+        rt,
+        lot,
+        meeting,
+        worker,
+    };
     let begin = now(rt);
-    let (pass, rounds) = go(rt, plan, lot, meeting, worker, pass, &mut times);
+    let (pass, rounds) = member.go(plan, pass, &mut times);
     let end = now(rt);
     lot.leave(rt, pass);
     Some(Done {
@@ -127,44 +127,39 @@ fn work<N: LotName<Number> + Send, T: Wait + Clock>(
     })
 }
 
-/// The work of the plan.
-fn go<N: LotName<Number> + Send, T: Wait + Clock>(
-    rt: &T,
-    plan: &Plan,
-    lot: &Lot<Number, N>,
-    meeting: &Meeting,
-    worker: usize,
-    pass: Pass<Number, N>,
-    times: &mut Times,
-) -> (Pass<Number, N>, u64)
-    requires locks { lot.now.locks ≡ plan.now.locks }
-    requires free { OwnsNone pass }
-    ensures { OwnsNone result.0 }
-{
-    match plan.job {
-        Job::Count(rounds) => (count(rt, lot, worker, pass, rounds), rounds),
-        Job::Share(_) => share(rt, lot, meeting, worker, pass),
-        Job::Wait(held, outside, _) => {
-            let pass = wait(rt, lot, meeting, pass, (held, outside), times);
-            (pass, times.count())
-        }
-        Job::Fair(fairness) => fair(rt, lot, meeting, worker, pass, &fairness, times),
-        Job::Relay(producers, rounds) if lot.locks() == 1 && lot.conds() == 2 => {
-            if worker < producers {
-                let pass = take_part(rt, lot, Side::Producer, worker, pass, rounds);
-                (pass, rounds)
-            } else {
-                let taken = plan.taken(producers, rounds, worker);
-                (take_part(rt, lot, Side::Consumer, worker, pass, taken), 0)
+impl<N: LotName<Number> + Send, T: Wait + Clock> Member<'_, N, T> {
+    /// The work of the plan.
+    fn go(&self, plan: &Plan, pass: Pass<Number, N>, times: &mut Times) -> (Pass<Number, N>, u64)
+        requires free { OwnsNone pass }
+        ensures { OwnsNone result.0 }
+    {
+        let (lot, worker) = (self.lot, self.worker);
+        match plan.job {
+            Job::Count(rounds) => (self.count(pass, rounds), rounds),
+            Job::Share(_) => self.share(pass),
+            Job::Wait(held, outside, _) => {
+                let pass = self.wait(pass, (held, outside), times);
+                (pass, times.count())
+            }
+            Job::Fair(fairness) => self.fair(pass, &fairness, times),
+            Job::Relay(producers, rounds) if lot.locks() == 1 && lot.conds() == 2 => {
+                if worker < producers {
+                    (self.take_part(Side::Producer, pass, rounds), rounds)
+                } else {
+                    let taken = plan.taken(producers, rounds, worker);
+                    (self.take_part(Side::Consumer, pass, taken), 0)
+                }
+            }
+            Job::Notify(rounds) if lot.conds() > 0 => (self.notify(pass, rounds), rounds),
+            Job::Turns(rounds) if lot.locks() == 1 && worker < lot.conds() => {
+                (self.take_turns(pass, rounds), rounds)
+            }
+            Job::Permits(rounds) if lot.locks() == 1 && lot.conds() == 0 && lot.sems() > 0 => {
+                (self.take_permits(pass, rounds), rounds)
+            }
+            Job::Relay(..) | Job::Notify(_) | Job::Turns(_) | Job::Permits(_) | Job::Start => {
+                (pass, 0)
             }
         }
-        Job::Notify(rounds) if lot.conds() > 0 => (notify(rt, lot, pass, rounds), rounds),
-        Job::Turns(rounds) if lot.locks() == 1 && worker < lot.conds() => {
-            (take_turns(rt, lot, worker, pass, rounds), rounds)
-        }
-        Job::Permits(rounds) if lot.locks() == 1 && lot.conds() == 0 && lot.sems() > 0 => {
-            (take_permits(rt, lot, pass, rounds), rounds)
-        }
-        Job::Relay(..) | Job::Notify(_) | Job::Turns(_) | Job::Permits(_) | Job::Start => (pass, 0),
     }
 }

@@ -1,16 +1,14 @@
 //! Rounds of which each wait is counted by its length, with each way of letting a lock go.
 ghost use Rattle.std.specs.Prelude.{◌≡◌, ◌≢◌, ◌<◌};
 ghost use Rattle.lot_sync.specs.Lot.{◌≈◌, Owns, OwnsNone, HasShape, letting_go};
-ghost use Rattle.lot_sync.specs.Values.{MayGiveBack};
 
 use super::clock::{moment, now, spend};
-use super::meeting::Meeting;
+use super::member::Member;
 use super::rounds::{Random, key_of};
 use super::times::Times;
 use super::turns::NEVER_FAIR;
 use super::value::Number;
-use lot_sync::{Held, Lot, LotName, Pass, Released};
-use lot_words::Keeps;
+use lot_sync::{Held, LotName, Pass, Released};
 use std::sync::Wait;
 use std::time::Clock;
 
@@ -34,65 +32,62 @@ pub struct Fairness {
     pub way: Way,
 }
 
-/// Rounds on locks by chance until the time is over, and how many they were. Counts each wait by its length.
-pub fn fair<N: LotName<Number> + Send, T: Wait + Clock>(
-    rt: &T,
-    lot: &Lot<Number, N>,
-    meeting: &Meeting,
-    worker: usize,
-    pass: Pass<Number, N>,
-    fairness: &Fairness,
-    times: &mut Times,
-) -> (Pass<Number, N>, u64)
-    requires locks { 0 < lot.now.locks }
-    requires free { OwnsNone pass }
-    ensures { OwnsNone result.0 }
-{
-    let locks = lot.locks();
-    let mut pass = pass;
-    let mut random = Random::new(worker);
-    let mut rounds = 0u64;
-    for _ in rt.forever() {
-        if meeting.is_over() {
-            return (pass, rounds);
+impl<N: LotName<Number> + Send, T: Wait + Clock> Member<'_, N, T> {
+    /// Rounds on locks by chance until the time is over, and how many they were. Counts each wait by its length.
+    pub fn fair(
+        &self,
+        mut pass: Pass<Number, N>,
+        fairness: &Fairness,
+        times: &mut Times,
+    ) -> (Pass<Number, N>, u64)
+        requires free { OwnsNone pass }
+        ensures { OwnsNone result.0 }
+    {
+        let locks = self.lot.locks();
+        let mut random = Random::new(self.worker);
+        let mut rounds = 0u64;
+        for _ in self.rt.forever() {
+            if self.meeting.is_over() {
+                return (pass, rounds);
+            }
+            let word = random.next();
+            let asked = now(self.rt);
+            let (owner, mut held) = self.lot.lock(self.rt, pass, key_of(word, locks));
+            let owned = now(self.rt);
+            let number = held.value_mut();
+            number.n = number.n.wrapping_add(1);
+            spend(self.rt, fairness.held);
+            let (free, _) = self.let_go(owner, held, fairness.way, word);
+            pass = free;
+            times.weigh(owned.wrapping_sub(asked));
+            rounds = rounds.wrapping_add(1);
+            spend(self.rt, fairness.outside);
         }
-        let word = random.next();
-        let asked = now(rt);
-        let (owner, mut held) = lot.lock(rt, pass, key_of(word, locks));
-        let owned = now(rt);
-        let number = held.value_mut();
-        number.n = number.n.wrapping_add(1);
-        spend(rt, fairness.held);
-        let (free, _) = let_go(rt, lot, owner, held, fairness.way, word);
-        pass = free;
-        times.weigh(owned.wrapping_sub(asked));
-        rounds = rounds.wrapping_add(1);
-        spend(rt, fairness.outside);
+        unreachable!()
     }
-    unreachable!()
-}
 
-/// Lets the lock go in this way.
-#[inline(always)]
-pub fn let_go<V: Keeps + Send, N: LotName<V> + Send, T: Wait + Clock>(
-    rt: &T,
-    lot: &Lot<V, N>,
-    pass: Pass<V, N>,
-    held: Held<V, N>,
-    way: Way,
-    word: u64,
-) -> (Pass<V, N>, Released)
-    requires key { held.key < lot.now.locks }
-    requires owns { Owns pass held.key }
-    requires back { MayGiveBack V.Keeps pass held }
-    ensures pass { result.0 ≈ letting_go pass held.key held.value }
-    ensures shape { HasShape lot.now result.0 }
-    ensures never { way ≡ Way.Never → result.1 ≢ Released.Handed }
-    ensures always { way ≡ Way.Always → result.1 ≢ Released.Woke }
-{
-    match way {
-        Way::Clock => lot.unlock_asking(rt, pass, held, || moment(rt, word)),
-        Way::Never => lot.unlock(rt, pass, held, NEVER_FAIR),
-        Way::Always => lot.unlock_fairly(rt, pass, held, NEVER_FAIR),
+    /// Lets the lock go in this way.
+    #[inline(always)]
+    pub fn let_go(
+        &self,
+        pass: Pass<Number, N>,
+        held: Held<Number, N>,
+        way: Way,
+        word: u64,
+    ) -> (Pass<Number, N>, Released)
+        requires key { held.key < self.now.lot.now.locks }
+        requires owns { Owns pass held.key }
+        ensures pass { result.0 ≈ letting_go pass held.key held.value }
+        ensures shape { HasShape self.now.lot.now result.0 }
+        ensures never { way ≡ Way.Never → result.1 ≢ Released.Handed }
+        ensures always { way ≡ Way.Always → result.1 ≢ Released.Woke }
+    {
+        match way {
+            Way::Clock => self
+                .lot
+                .unlock_asking(self.rt, pass, held, || moment(self.rt, word)),
+            Way::Never => self.lot.unlock(self.rt, pass, held, NEVER_FAIR),
+            Way::Always => self.lot.unlock_fairly(self.rt, pass, held, NEVER_FAIR),
+        }
     }
 }

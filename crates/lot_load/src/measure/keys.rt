@@ -3,19 +3,20 @@
 ghost use Rattle.std.specs.Prelude.{◌≡◌, ◌≤◌, ◌<◌, length};
 ghost use Rattle.lot_core.specs.declared.state.TheConstants.{MAX_THREADS};
 ghost use Rattle.lot_sync.specs.Opened.{IsNamed};
-ghost use Rattle.lot_load.specs.declared.many.TheConstants.{MOST_LOCKS};
+ghost use Rattle.lot_load.specs.declared.spread.TheConstants.{MOST_LOCKS};
 
 use super::clock::now;
 use super::meeting::Meeting;
+use super::member::Member;
 use super::plan::MOST_ROUNDS;
-use super::rounds::count;
 use super::stages::{Stage, Told, each_tells, half_of, longest_of, rounds_of};
 use super::summary::{begin_line, push_figures};
-use super::value::Number;
-use crate::many::MOST_LOCKS;
+use super::value::{Number, sum_of};
+use crate::spread::MOST_LOCKS;
+use crate::workers::open;
 use lot_calls::{finish, start_with_room};
 use lot_command::{Failure, number};
-use lot_sync::{Lot, LotName, MAX_THREADS, OpenFault, Opened};
+use lot_sync::{Lot, LotName, MAX_THREADS, Opened};
 use std::alloc::Global;
 use std::marker::Brand;
 use std::sync::Wait;
@@ -76,11 +77,8 @@ pub fn measure_keys<T: Threads + Wait + Clock + Sync>(
 ) -> Result<Figures, Failure> {
     let begin = now(rt);
     let values = vec![in alloc; Number { n: 0 }; keys.locks]?;
-    match Lot::<Number, Brand>::open_many(alloc, keys.threads, values, 0, &[]) {
-        Ok(opened) => run_on::<Brand, T>(rt, alloc, keys, opened, begin),
-        Err((OpenFault::NoMemory, _)) => Err(Failure::NoMemory),
-        Err(_) => unreachable!(),
-    }
+    let opened = open(alloc, keys.threads, values, 0, &[])?;
+    run_on::<Brand, T>(rt, alloc, keys, opened, begin)
 }
 
 fn run_on<N: LotName<Number> + Send + Sync, T: Threads + Wait + Clock + Sync>(
@@ -104,9 +102,7 @@ fn run_on<N: LotName<Number> + Send + Sync, T: Threads + Wait + Clock + Sync>(
     let mut figures = worked?;
     figures.open = open;
     figures.close = close;
-    for number in values.iter() {
-        figures.sum = figures.sum.wrapping_add(number.n);
-    }
+    figures.sum = sum_of(values.as_slice());
     Ok(figures)
 }
 
@@ -150,12 +146,18 @@ pub fn pairs_of<N: LotName<Number> + Send, T: Wait + Clock>(
     requires { lot.now.locks ≡ keys.now.locks }
 {
     let registered = lot.register(rt);
-    meeting.join(keys.threads as u64);
+    meeting.join();
     let Ok(pass) = registered else {
         return Told::Nothing;
     };
+    let member = Member {
+        rt,
+        lot,
+        meeting,
+        worker,
+    };
     let begin = now(rt);
-    let pass = count(rt, lot, worker, pass, keys.rounds);
+    let pass = member.count(pass, keys.rounds);
     let end = now(rt);
     lot.leave(rt, pass);
     Told::Worked(Stretch { begin, end })

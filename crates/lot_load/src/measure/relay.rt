@@ -2,11 +2,12 @@
 ghost use Rattle.std.specs.Prelude.{◌≡◌, ◌≤◌, ◌<◌};
 ghost use Rattle.lot_sync.specs.Lot.{OwnsNone};
 
-use super::fair::{Way, let_go};
+use super::fair::Way;
+use super::member::Member;
 use super::rounds::Random;
-use super::turns::{Awaited, NEVER_FAIR, get_when};
+use super::turns::{Awaited, NEVER_FAIR};
 use super::value::Number;
-use lot_sync::{Lot, LotName, Pass};
+use lot_sync::{LotName, Pass};
 use std::sync::Wait;
 use std::time::Clock;
 
@@ -66,30 +67,26 @@ impl Side {
     }
 }
 
-/// Puts or takes so many times.
-pub fn take_part<N: LotName<Number> + Send, T: Wait + Clock>(
-    rt: &T,
-    lot: &Lot<Number, N>,
-    side: Side,
-    worker: usize,
-    pass: Pass<Number, N>,
-    rounds: u64,
-) -> Pass<Number, N>
-    requires keys { (lot.now.locks ≡ 1) × (lot.now.conds ≡ 2) }
-    requires free { OwnsNone pass }
-    ensures { OwnsNone result }
-{
-    let mut pass = pass;
-    let mut random = Random::new(worker);
-    for _ in 0..rounds {
-        let word = random.next();
-        let awaited = Awaited::Buffer(side);
-        let (owner, mut held) = get_when(rt, lot, pass, side.waits_on(), word, awaited);
-        let number = held.value_mut();
-        number.n = side.leaves(number.n);
-        let (owner, _) = let_go(rt, lot, owner, held, Way::Clock, word);
-        let (told, _) = lot.notify_one(rt, owner, side.tells(), NEVER_FAIR);
-        pass = told;
+impl<N: LotName<Number> + Send, T: Wait + Clock> Member<'_, N, T> {
+    /// Puts or takes so many times.
+    pub fn take_part(&self, side: Side, mut pass: Pass<Number, N>, rounds: u64) -> Pass<Number, N>
+        requires keys { (self.now.lot.now.locks ≡ 1) × (self.now.lot.now.conds ≡ 2) }
+        requires free { OwnsNone pass }
+        ensures { OwnsNone result }
+    {
+        let mut random = Random::new(self.worker);
+        for _ in 0..rounds {
+            let word = random.next();
+            let awaited = Awaited::Buffer(side);
+            let (owner, mut held) = self.get_when(pass, side.waits_on(), word, awaited);
+            let number = held.value_mut();
+            number.n = side.leaves(number.n);
+            let (owner, _) = self.let_go(owner, held, Way::Clock, word);
+            let (told, _) = self
+                .lot
+                .notify_one(self.rt, owner, side.tells(), NEVER_FAIR);
+            pass = told;
+        }
+        pass
     }
-    pass
 }

@@ -48,7 +48,8 @@ pub fn register_in_turn<N: LotName<Number> + Send, T: Wait + Clock>(
     Told::Registered(took)
 }
 
-/// Stays until all have registered: the first owns lock 0, and the second sleeps for it.
+/// Stays until all have registered: the first owns lock 0 meanwhile, and the second sleeps for it. The third registers
+/// when the second is parked.
 fn stay<N: LotName<Number> + Send, T: Wait>(
     rt: &T,
     lot: &Lot<Number, N>,
@@ -62,7 +63,17 @@ fn stay<N: LotName<Number> + Send, T: Wait>(
     ensures { OwnsNone result }
 {
     match worker {
-        0 => own(rt, lot, steps, threads, pass),
+        0 => {
+            let (owner, held) = lot.lock(rt, pass, 0);
+            steps.make();
+            if threads > 1 {
+                await_parked(lot);
+                steps.make();
+            }
+            let _ = steps.await_made(threads as u64);
+            let (free, _) = lot.unlock(rt, owner, held, NEVER_FAIR);
+            free
+        }
         1 => {
             let (owner, held) = lot.lock(rt, pass, 0);
             let (free, _) = lot.unlock(rt, owner, held, NEVER_FAIR);
@@ -74,29 +85,6 @@ fn stay<N: LotName<Number> + Send, T: Wait>(
             pass
         }
     }
-}
-
-/// Owns lock 0 until all have registered. The third registers when the second is parked.
-fn own<N: LotName<Number> + Send, T: Wait>(
-    rt: &T,
-    lot: &Lot<Number, N>,
-    steps: &Steps,
-    threads: usize,
-    pass: Pass<Number, N>,
-) -> Pass<Number, N>
-    requires locks { 0 < lot.now.locks }
-    requires free { OwnsNone pass }
-    ensures { OwnsNone result }
-{
-    let (owner, held) = lot.lock(rt, pass, 0);
-    steps.make();
-    if threads > 1 {
-        await_parked(lot);
-        steps.make();
-    }
-    let _ = steps.await_made(threads as u64);
-    let (free, _) = lot.unlock(rt, owner, held, NEVER_FAIR);
-    free
 }
 
 /// Waits until somebody is parked on lock 0. It asks a bounded number of times.
@@ -120,10 +108,9 @@ pub fn wake<N: LotName<Number> + Send, T: Wait + Clock>(
 ) -> Told
     requires { 0 < lot.now.locks }
 {
-    let Ok(pass) = lot.register(rt) else {
+    let Ok(mut pass) = lot.register(rt) else {
         return Told::Nothing;
     };
-    let mut pass = pass;
     let mut random = Random::new(1);
     for round in 0..SLEEPS {
         let (owner, held) = lot.lock(rt, pass, key_of(random.next(), lot.locks()));
@@ -154,10 +141,9 @@ pub fn sleep<N: LotName<Number> + Send, T: Wait + Clock>(
     let Ok(mut times) = Times::new(alloc) else {
         return Told::Nothing;
     };
-    let Ok(pass) = lot.register(rt) else {
+    let Ok(mut pass) = lot.register(rt) else {
         return Told::Nothing;
     };
-    let mut pass = pass;
     let mut random = Random::new(1);
     for round in 0..SLEEPS {
         if !steps.await_made(3 * round + 1) {

@@ -57,7 +57,7 @@ pub fn each_tells<N: LotName<Number> + Send + Sync, T: Threads + Wait + Clock + 
     requires { lot.now.locks ≡ keys.now.locks }
 {
     let shared = Shared {
-        meeting: Meeting::new(),
+        meeting: Meeting::new(keys.threads as u64),
         steps: Steps::new(),
         unlocked: AtomicU64::new(0),
     };
@@ -65,35 +65,36 @@ pub fn each_tells<N: LotName<Number> + Send + Sync, T: Threads + Wait + Clock + 
         Stage::Register | Stage::Pairs => keys.threads,
         Stage::Sleep => 2,
     };
-    let told = map_indices(
+    Ok(map_indices(
         rt,
         alloc,
         threads,
         &|worker: usize| -> Told
             requires { lot.now.locks ≡ keys.now.locks }
-        { tell(rt, alloc, keys, lot, stage, &shared, worker) },
-    )?;
-    Ok(told)
+        { shared.go_through(stage, rt, alloc, keys, lot, worker) },
+    )?)
 }
 
-/// One thread.
-fn tell<N: LotName<Number> + Send, T: Wait + Clock>(
-    rt: &T,
-    alloc: Global,
-    keys: &Keys,
-    lot: &Lot<Number, N>,
-    stage: Stage,
-    shared: &Shared,
-    worker: usize,
-) -> Told
-    requires { lot.now.locks ≡ keys.now.locks }
-{
-    let steps = &shared.steps;
-    match stage {
-        Stage::Register => register_in_turn(rt, lot, steps, keys.threads, worker),
-        Stage::Pairs => pairs_of(rt, keys, lot, &shared.meeting, worker),
-        Stage::Sleep if worker == 0 => wake(rt, lot, steps, &shared.unlocked),
-        Stage::Sleep => sleep(rt, alloc, lot, steps, &shared.unlocked),
+impl Shared {
+    /// What one thread does, and tells.
+    fn go_through<N: LotName<Number> + Send, T: Wait + Clock>(
+        &self,
+        stage: Stage,
+        rt: &T,
+        alloc: Global,
+        keys: &Keys,
+        lot: &Lot<Number, N>,
+        worker: usize,
+    ) -> Told
+        requires { lot.now.locks ≡ keys.now.locks }
+    {
+        let steps = &self.steps;
+        match stage {
+            Stage::Register => register_in_turn(rt, lot, steps, keys.threads, worker),
+            Stage::Pairs => pairs_of(rt, keys, lot, &self.meeting, worker),
+            Stage::Sleep if worker == 0 => wake(rt, lot, steps, &self.unlocked),
+            Stage::Sleep => sleep(rt, alloc, lot, steps, &self.unlocked),
+        }
     }
 }
 

@@ -19,3 +19,12 @@ impl Keeps for Number {
 
     ghost grows_on = { λ x y z p q. tt };
 }
+
+/// The sum of the numbers, modulo 2^64.
+pub fn sum_of(numbers: &[Number]) -> u64 {
+    let mut sum = 0u64;
+    for number in numbers {
+        sum = sum.wrapping_add(number.n);
+    }
+    sum
+}

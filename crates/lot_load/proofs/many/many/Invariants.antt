@@ -1,14 +1,8 @@
+use Rattle.lot_sync.proofs.Naming.{table_name, lot_name}
 use Rattle.lot_load.proofs.many.many.Given as goal
 
 abbrev pub ghosts-run-N-Name : goal.ghosts-run-N-Name
-ghosts-run-N-Name g a = record { opening = a.opened.opening }
+ghosts-run-N-Name g a = table_name a.opened
 
 abbrev pub ghosts-run-N-LotName : goal.ghosts-run-N-LotName
-ghosts-run-N-LotName g a = record {
-  first_sem = a.opened.first_sem;
-  permits = a.opened.permits;
-  locks = a.opened.locks;
-  conds = a.opened.conds;
-  threads = a.opened.threads;
-  values = a.opened.values;
-}
+ghosts-run-N-LotName g a = lot_name a.opened

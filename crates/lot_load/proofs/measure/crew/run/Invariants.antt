@@ -1,14 +1,8 @@
+use Rattle.lot_sync.proofs.Naming.{table_name, lot_name}
 use Rattle.lot_load.proofs.measure.crew.run.Given as goal
 
 abbrev pub ghosts-run_on-N-Name : goal.ghosts-run_on-N-Name
-ghosts-run_on-N-Name g a = record { opening = a.opened.opening }
+ghosts-run_on-N-Name g a = table_name a.opened
 
 abbrev pub ghosts-run_on-N-LotName : goal.ghosts-run_on-N-LotName
-ghosts-run_on-N-LotName g a = record {
-  first_sem = a.opened.first_sem;
-  permits = a.opened.permits;
-  locks = a.opened.locks;
-  conds = a.opened.conds;
-  threads = a.opened.threads;
-  values = a.opened.values;
-}
+ghosts-run_on-N-LotName g a = lot_name a.opened

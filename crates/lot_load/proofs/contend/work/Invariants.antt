@@ -1,5 +1,0 @@
-use Rattle.lot_sync.specs.Lot.{OwnsNone}
-use Rattle.lot_load.proofs.contend.work.Given as goal
-
-abbrev pub invariant-loop-round : goal.invariant-loop-round
-invariant-loop-round g l = OwnsNone l.pass

@@ -1,5 +1,0 @@
-use Rattle.lot_sync.specs.Lot.{OwnsNone}
-use Rattle.lot_load.proofs.measure.relay.take_part.Given as goal
-
-abbrev pub invariant-loop : goal.invariant-loop
-invariant-loop g l = OwnsNone l.pass
