@@ -4,7 +4,7 @@ ghost use Rattle.std.specs.List.{All};
 ghost use Rattle.lot_calls.specs.Workers.{MayLeave};
 ghost use Rattle.lot_sync.specs.Opened.{KeepAll};
 
-use lot_calls::{finish, leave_all};
+use lot_calls::finish_with;
 use lot_command::Failure;
 use lot_sync::{Lot, LotName, Moment, Opened, Pass};
 use lot_words::Keeps;
@@ -45,8 +45,7 @@ pub fn end<V: Keeps + Send + Drop, N: LotName<V> + Send, T: Wait>(
     ensures ended { IfOk result (λ values. (worked ≡ true) × (vec_len values ≡ lot.locks)) }
     ensures refused { IfErr result (λ _. worked ≡ false) }
 {
-    let room = leave_all(rt, &lot, passes);
-    let (values, _) = finish(rt, lot, room);
+    let (values, _) = finish_with(rt, lot, passes);
     if worked {
         Ok(values)
     } else {

@@ -18,6 +18,7 @@
 //! | `start_with_passes` | `start_with_room`, and `register` for each thread |
 //! | `start_counting_with_passes` | `start_counting`, and the same |
 //! | `leave_all` | `leave` with each of a list of passes |
+//! | `finish_with` | `leave_all`, then `finish` |
 #![tactic(auto)]
 
 mod both;
@@ -34,4 +35,6 @@ pub use finishing::{finish, take_all};
 pub use together::work_together;
 pub use until::{lock_until, wait_until};
 pub use with::{with_lock, with_value};
-pub use workers::{leave_all, start_counting_with_passes, start_with_passes, start_with_room};
+pub use workers::{
+    finish_with, leave_all, start_counting_with_passes, start_with_passes, start_with_room,
+};

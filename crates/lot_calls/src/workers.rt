@@ -4,11 +4,11 @@ ghost use Rattle.std.specs.List.{All};
 ghost use Rattle.lot_sync.specs.Lot.{PassView, rested};
 ghost use Rattle.lot_sync.specs.Opened.{IsNamed};
 ghost use Rattle.lot_sync.specs.Starting.{Starts};
-ghost use Rattle.lot_calls.specs.Finished.{IsReady};
+ghost use Rattle.lot_calls.specs.Finished.{IsReady, IsFinished};
 ghost use Rattle.lot_calls.specs.Workers.{MayLeave, HaveGrown};
 
 use crate::finishing::finish;
-use lot_sync::{Contention, Lot, LotName, Opened, Pass, Tally};
+use lot_sync::{Contention, Ledger, Lot, LotName, Opened, Pass, Tally};
 use lot_words::Keeps;
 use std::alloc::Global;
 use std::sync::Wait;
@@ -111,8 +111,7 @@ fn with_passes<V: Keeps + Send, N: LotName<V> + Send, C: Tally + Send, T: Wait>(
     if registered {
         Ok((lot, passes))
     } else {
-        let room = leave_all(rt, &lot, passes);
-        Err(finish(rt, lot, room).0)
+        Err(finish_with(rt, lot, passes).0)
     }
 }
 
@@ -151,4 +150,21 @@ pub fn leave_all<V: Keeps + Send, N: LotName<V> + Send, C: Tally + Send, T: Wait
         lot.leave(rt, pass);
     }
     passes
+}
+
+/// Leaves with each pass of a list that has room for all, and ends the lot as `finish` does:
+/// `let (values, ledger) = finish_with(rt, lot, passes);`. While another pass is out it never returns.
+pub fn finish_with<V: Keeps + Send, N: LotName<V> + Send, C: Tally + Send, T: Wait>(
+    rt: &T,
+    lot: Lot<V, N, C>,
+    passes: Vec<Pass<V, N>>,
+) -> (Vec<V>, Ledger)
+    requires leave { All (MayLeave V.Keeps) passes.items }
+    requires room { lot.threads ≤ vec_capacity passes }
+    ensures count { vec_len result.0 ≡ lot.locks }
+    ensures finished { IsFinished V.Keeps N.LotName lot result.0.items result.1.called.items result.1.woken.items }
+    ensures balanced { result.1.called.items ≡ result.1.woken.items }
+{
+    let room = leave_all(rt, &lot, passes);
+    finish(rt, lot, room)
 }

@@ -8,8 +8,8 @@ ghost use Rattle.lot_load.specs.Works.{WorksOn};
 
 use crate::counter::{Add, Counter};
 use crate::gate::{Gate, Point};
-use crate::workers::{end, moment, open, outcome};
-use lot_calls::{start_with_passes, work_together};
+use crate::workers::{moment, open, outcome};
+use lot_calls::{finish_with, start_with_passes, work_together};
 use lot_command::{Failure, report};
 use lot_journal::Journal;
 use lot_sync::{Held, Lot, LotName, Opened, Pass};
@@ -92,7 +92,7 @@ fn run<N: LotName<Journal<Counter>> + Send + Sync, T: Threads + Wait + Sync, G: 
         ensures { OwnsNone result }
     { work(rt, &lot, gate, counting, &refused, pass) };
     let (passes, worked) = work_together(rt, &go, passes);
-    let (journals, _) = end(rt, lot, passes);
+    let (journals, _) = finish_with(rt, lot, passes);
     outcome(worked, refused.load(Ordering::SeqCst))?;
     print(alloc, journals.as_slice())
 }

@@ -4,8 +4,8 @@ ghost use Rattle.lot_sync.specs.Opened.{IsNamed};
 
 use crate::measure::value::Number;
 use crate::spread::{Draw, Spreading, print_total, spread};
-use crate::workers::{end, open};
-use lot_calls::start_with_passes;
+use crate::workers::open;
+use lot_calls::{finish_with, start_with_passes};
 use lot_command::Failure;
 use lot_sync::{LotName, Opened};
 use std::alloc::Global;
@@ -39,7 +39,7 @@ fn run<N: LotName<Number> + Send + Sync, T: Threads + Wait + Sync>(
         return Err(Failure::NoMemory);
     };
     let (passes, gone) = spread(rt, &lot, spreading, Draw::Evenly, passes);
-    let (numbers, _) = end(rt, lot, passes);
+    let (numbers, _) = finish_with(rt, lot, passes);
     let mut text = String::new(alloc);
     print_total(&mut text, "keys", numbers.as_slice(), gone?)?;
     Ok(text)

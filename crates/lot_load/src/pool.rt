@@ -6,8 +6,8 @@ ghost use Rattle.lot_sync.specs.Opened.{IsNamed};
 
 use crate::gate::{Gate, Point};
 use crate::inside::{Going, Inside};
-use crate::workers::{end, moment, open, outcome, push_lines};
-use lot_calls::{start_with_passes, work_together};
+use crate::workers::{moment, open, outcome, push_lines};
+use lot_calls::{finish_with, start_with_passes, work_together};
 use lot_command::Failure;
 use lot_sync::{Lot, LotName, Opened, Pass};
 use std::alloc::Global;
@@ -67,7 +67,7 @@ fn run<N: LotName<Inside> + Send + Sync, T: Threads + Wait + Sync, G: Gate + Syn
         ensures { OwnsNone result }
     { work(rt, &lot, gate, pooling, pass) };
     let (passes, worked) = work_together(rt, &go, passes);
-    let (counts, _) = end(rt, lot, passes);
+    let (counts, _) = finish_with(rt, lot, passes);
     outcome(worked, false)?;
     print(alloc, &counts[0], pooling.permits)
 }

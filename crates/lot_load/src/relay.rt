@@ -7,8 +7,8 @@ ghost use Rattle.lot_load.specs.Buffers.{HasBuffer};
 
 use crate::buffer::{Buffer, TakenNumber};
 use crate::gate::{Gate, Point};
-use crate::workers::{end, moment, open, outcome, push_lines};
-use lot_calls::{start_with_passes, work_together};
+use crate::workers::{moment, open, outcome, push_lines};
+use lot_calls::{finish_with, start_with_passes, work_together};
 use lot_command::{Failure, report};
 use lot_sync::{Held, Ledger, Lot, LotName, Moment, Opened, Pass};
 use std::alloc::Global;
@@ -101,7 +101,7 @@ fn run<N: LotName<Buffer> + Send + Sync, T: Threads + Wait + Sync, G: Gate + Syn
         ensures { OwnsNone result }
     { work(rt, &lot, gate, relaying, pass) };
     let (passes, worked) = work_together(rt, &go, passes);
-    let (buffers, ledger) = end(rt, lot, passes);
+    let (buffers, ledger) = finish_with(rt, lot, passes);
     outcome(worked, false)?;
     print(alloc, &buffers[0], &ledger)
 }

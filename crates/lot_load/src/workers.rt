@@ -1,19 +1,14 @@
-//! What the commands share that run real threads on a lot: how it is opened and ends, what came of their workers, and
-//! the moments of releases.
-ghost use Rattle.std.specs.Prelude.{◌≡◌, ◌≤◌, Ok, Err, if◌then◌else◌, IfOk, length, vec_len, vec_capacity};
-ghost use Rattle.std.specs.List.{All};
+//! What the commands share that run real threads on a lot: how it is opened, what came of their workers, and the
+//! moments of releases.
+ghost use Rattle.std.specs.Prelude.{◌≡◌, Ok, Err, if◌then◌else◌, IfOk, length, vec_len};
 ghost use Rattle.lot_sync.specs.Opened.{KeepAll, IsThreadCount, AreManyKeys};
-ghost use Rattle.lot_calls.specs.Finished.{IsFinished};
-ghost use Rattle.lot_calls.specs.Workers.{MayLeave};
 
-use lot_calls::{finish, leave_all};
 use lot_command::Failure;
-use lot_sync::{Ledger, Lot, LotName, Moment, OpenFault, Opened, Pass};
+use lot_sync::{Lot, Moment, OpenFault, Opened};
 use lot_words::Keeps;
 use std::alloc::Global;
 use std::fmt::Write as _;
 use std::marker::Brand;
-use std::sync::Wait;
 
 /// How much later each round of a worker is than the one before, in nanoseconds. No clock is read.
 const ROUND: u64 = 500_000;
@@ -36,22 +31,6 @@ pub fn open<V: Keeps + Send>(
         Err((OpenFault::NoMemory, _)) => Err(Failure::NoMemory),
         Err(_) => unreachable!(),
     }
-}
-
-/// Leaves with each pass, and ends the lot: `leave_all`, and then `finish`.
-pub fn end<V: Keeps + Send, N: LotName<V> + Send, T: Wait>(
-    rt: &T,
-    lot: Lot<V, N>,
-    passes: Vec<Pass<V, N>>,
-) -> (Vec<V>, Ledger)
-    requires leave { All (MayLeave V.Keeps) passes.items }
-    requires room { lot.threads ≤ vec_capacity passes }
-    ensures count { vec_len result.0 ≡ lot.locks }
-    ensures finished { IsFinished V.Keeps N.LotName lot result.0.items result.1.called.items result.1.woken.items }
-    ensures balanced { result.1.called.items ≡ result.1.woken.items }
-{
-    let room = leave_all(rt, &lot, passes);
-    finish(rt, lot, room)
 }
 
 /// What came of workers: whether all could be started, and whether memory was refused to one.

@@ -8,7 +8,7 @@ ghost use Rattle.std.specs.Prelude.{◌≡◌, ◌<◌, length};
 ghost use Rattle.lot_sync.specs.Lot.{OwnsNone};
 ghost use Rattle.lot_sync.specs.Opened.{IsNamed};
 
-use lot_calls::{finish, leave_all, start_with_passes, work_together};
+use lot_calls::{finish_with, start_with_passes, work_together};
 use lot_command::{Failure, report};
 use lot_sync::{Lot, LotName, Moment, Opened, Pass};
 use lot_words::Keeps;
@@ -83,8 +83,7 @@ fn run_on<N: LotName<Number> + Send + Sync, T: Threads + Wait + Sync>(
         ensures { OwnsNone result }
     { work(rt, &lot, pass) };
     let (passes, worked) = work_together(rt, &raise_all, passes);
-    let room = leave_all(rt, &lot, passes);
-    let (values, _) = finish(rt, lot, room);
+    let (values, _) = finish_with(rt, lot, passes);
     if !worked {
         return Err(Failure::CannotStartWorker);
     }
