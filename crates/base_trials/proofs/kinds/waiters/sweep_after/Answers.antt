@@ -1,6 +1,6 @@
 use Rattle.std.proofs.Common.{arith}
-use Rattle.lot_waits.proofs.Notified.{may_sweep, finds_nobody, notified_all}
-use Rattle.lot_waits.proofs.Told.{told_nobody, told_all}
+use Rattle.lot_waits.proofs.Notified.{may_sweep, notified_all}
+use Rattle.lot_waits.proofs.Told.{told_at_once, told_all}
 use Rattle.base_trials.proofs.kinds.waiters.sweep_after.Goals as goal
 
 pub take_all-requires-clause-lowered : goal.take_all-requires-clause-lowered
@@ -12,8 +12,7 @@ take_all-requires-clause-lowered g c κs within = (
 
 pub returns-then-not-waits-clause-taken : goal.returns-then-not-waits-clause-taken
 returns-then-not-waits-clause-taken g c =
-    told_nobody c.args.pass c.look-pass.result.0 2 0 c.requires.idle
-    (finds_nobody c.args.pass c.look-pass.result.0 2 c.look-pass.result.1 c.if-not-waits.true c.look-pass.ensures)
+    told_at_once c.args.pass c.look-pass.result.0 2 c.look-pass.result.1 c.requires.idle c.if-not-waits.true c.look-pass.ensures
 
 pub returns-clause-taken : goal.returns-clause-taken
 returns-clause-taken g c =
