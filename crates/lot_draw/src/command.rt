@@ -9,7 +9,8 @@ use std::io::{Read, Write};
 const USAGE: &str = "\
 lotview FILE     draws a script of the model, as SVG on standard output: a lane for each thread, a column for each event
 
-Status: 0; 1 for words or a file that can't be taken; 2 where the model refuses an event; 3 for want of memory.
+Status: 0; 1 for words or a file that can't be taken, or an output that can't be written; 2 where the model refuses an
+event; 3 for want of memory.
 ";
 
 /// Draws the script that the one word names, and answers the exit status: 0, or that of the failure whose text is

@@ -35,9 +35,9 @@ lotstress replay FILE                         a script of the model; the state t
 lotstress witness FILE                        a script that says what was seen; whether it is a run of the model
 
 THREADS 1 to 256 (of relay 2 to 256), LOCKS 1 to 1024, PERMITS 1 to 9999, ROUNDS 0 to 10000, SEED below 2^64;
-KEYS 1 to 10000000.
-Status: 0; 1 for words or a file that can't be taken; 2 where the model refuses an event, or it saw otherwise; 3 for
-want of memory.
+KEYS 1 to 10000000. Numbers are decimal digits, with no sign and no leading zero.
+Status: 0; 1 for words or a file that can't be taken, or an output that can't be written; 2 where the model refuses an
+event, or it saw otherwise; 3 for want of memory, or where a thread can't be started.
 ";
 
 /// Runs the command that the words spell, and answers its exit status: 0, or that of the failure whose text is written

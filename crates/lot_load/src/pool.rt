@@ -9,7 +9,7 @@ use crate::inside::{Going, Inside};
 use crate::workers::{moment, open, outcome, push_lines};
 use lot_calls::{finish_with, start_with_passes, work_together};
 use lot_command::Failure;
-use lot_sync::{Lot, LotName, Opened, Pass};
+use lot_sync::{Lot, LotName, Moment, Opened, Pass};
 use std::alloc::Global;
 use std::marker::Brand;
 use std::sync::Wait;
@@ -109,8 +109,8 @@ fn go_round<N: LotName<Inside> + Send + Sync, T: Wait, G: Gate>(
     gate.reached(worker, round, Point::BeforeLock);
     let (pass, permit) = lot.acquire(rt, pass, POOL);
     gate.reached(worker, round, Point::Owning);
-    let pass = count(rt, lot, pass, Going::In);
-    let pass = count(rt, lot, pass, Going::Out);
+    let pass = count(rt, lot, pass, Going::In, moment);
+    let pass = count(rt, lot, pass, Going::Out, moment);
     gate.reached(worker, round, Point::BeforeRelease);
     let (pass, _) = lot.release(rt, pass, permit, moment);
     pass
@@ -122,6 +122,7 @@ fn count<N: LotName<Inside> + Send + Sync, T: Wait>(
     lot: &Lot<Inside, N>,
     pass: Pass<Inside, N>,
     going: Going,
+    moment: Moment,
 ) -> Pass<Inside, N>
     requires sizes { lot.now.locks ≡ 1 }
     requires free { (k : ℕ) → ¬ Owns pass k }
@@ -130,7 +131,7 @@ fn count<N: LotName<Inside> + Send + Sync, T: Wait>(
 {
     let (pass, mut held) = lot.lock(rt, pass, COUNT);
     held.value_mut().count(going);
-    lot.unlock(rt, pass, held, moment(0, 0, 0)).0
+    lot.unlock(rt, pass, held, moment).0
 }
 
 /// A line for the rounds that were done, and one for whether never more workers than permits were in.
