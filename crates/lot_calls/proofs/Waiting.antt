@@ -11,7 +11,7 @@ use Rattle.lot_sync.specs.Values.{Gets, MayGiveBack, WaitsAndGets}
 use Rattle.lot_sync.specs.Holding.{Holding}
 use Rattle.lot_sync.proofs.Holdings.{near_of, may_go_back, got_holds}
 use Rattle.lot_calls.specs.Traces.{WaitsTrace, GetAfterTrace}
-use Rattle.lot_calls.specs.Waits.{AfterWaits, WaitsOn, GetsAfter}
+use Rattle.lot_calls.specs.Waits.{AfterWaits, WaitsOn, GetsAfter, woken_from}
 
 -- what was cleared and set again, and was set before, is as before
 pub clear_back : (bs : List Bool) (k : ℕ) → get_or bs k false ≡ true → set (set bs k false) k true ≡ bs
@@ -98,6 +98,39 @@ module _ {V : Type 0} where
       refl,
     ),
   )
+
+  -- how many waits more have ended
+  pub woken_after : (before after : PassView V) (key cond n : ℕ) (found : V) → AfterWaits before key cond found n after
+      → after.woken ≡ (woken_from before cond n).woken
+  woken_after before after key cond zero found same = ap (λ (p : PassView V). p.woken) same
+  woken_after before after key cond (suc n) found waited = ap (λ (p : PassView V). p.woken) waited.0
+
+  pub woken_alike : (before got : PassView V) (cond n : ℕ) → got.woken ≡ before.woken
+      → (woken_from got cond n).woken ≡ (woken_from before cond n).woken
+  woken_alike before got cond zero same = same
+  woken_alike before got cond (suc n) same = ap (λ ns. set ns cond (slice_index ns cond + suc n)) same
+
+  -- the pass, after a lock was got and then waited with
+  pub is_after : (before got after : PassView V) (key cond : ℕ) (held found : HeldView V) (n : ℕ) → held.key ≡ key
+      → got ≈ owning before key held.value → AfterWaits got held.key cond found.value n after → (n ≡ 0 → found ≡ held)
+      → after ≈ woken_from (owning before key found.value) cond n
+  is_after before got after key cond held found zero same is waited whole =
+      subst (λ (h : HeldView V). after ≈ owning before key h.value) (sym (whole refl))
+      (waited ∙ ap (λ (p : PassView V). record p { made = after.made }) is)
+  is_after before got after key cond held found (suc n) same is waited whole =
+      let again : after ≈ woken_from (owning got key found.value) cond (suc n) =
+      subst (λ k. after ≈ woken_from (owning got k found.value) cond (suc n)) same waited.0 in
+      again
+      ∙ (ap (λ (p : PassView V). record (woken_from (owning p key found.value) cond (suc n)) { made = after.made }) is
+      ∙ (λ i. record {
+        thread = before.thread;
+        owns = set-set before.owns key true true i;
+        seen = set-set before.seen key held.value found.value i;
+        called = before.called;
+        woken = (woken_from before cond (suc n)).woken;
+        permits = before.permits;
+        made = after.made;
+      }))
 
 module _ {V Part : Type 0} (rule : CallersRule V Part) (unready : V → Type 0) where
   -- no wait yet

@@ -9,7 +9,8 @@ use Rattle.lot_calls.specs.Traces.{WaitsTrace}
 module _ {V : Type 0} where
   -- so many waits more on the condition have ended
   abbrev pub woken_from : PassView V → ℕ → ℕ → PassView V
-  woken_from p cond count = record p { woken = slice_set p.woken cond (slice_index p.woken cond + count) }
+  woken_from p cond zero = p
+  woken_from p cond (suc n) = record p { woken = slice_set p.woken cond (slice_index p.woken cond + suc n) }
 
   -- So many waits in a row, each of which began with a value that was not as wanted: with the first value, and then
   -- with what the wait before had ended with, which goes on from that. The last one ended with the last value.

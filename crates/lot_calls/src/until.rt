@@ -1,13 +1,13 @@
 //! Waiting on a condition until a lock's value is as wanted.
 ghost use Rattle.std.specs.Prelude.{◌≡◌, ℕ, ◌<◌, true, false};
 ghost use Rattle.lot_order.specs.Order.{AllBelow, MayWait};
-ghost use Rattle.lot_sync.specs.Lot.{Owns, OwnsNone, HasShape, IsCond, keys_of};
+ghost use Rattle.lot_sync.specs.Lot.{◌≈◌, Owns, OwnsNone, HasShape, IsCond, keys_of, owning};
 ghost use Rattle.lot_sync.specs.Values.{MayGiveBack};
 ghost use Rattle.lot_sync.specs.Holding.{Holding};
 ghost use Rattle.lot_sync.specs.Traces.{Adds};
 ghost use Rattle.lot_calls.specs.Traces.{GetAfterTrace};
 ghost use Rattle.lot_calls.specs.Visits.{Finds};
-ghost use Rattle.lot_calls.specs.Waits.{WaitsOn, WaitsWhile, GetsAfter};
+ghost use Rattle.lot_calls.specs.Waits.{WaitsOn, WaitsWhile, GetsAfter, woken_from};
 
 use lot_sync::{Held, Lot, LotName, Moment, Pass, Tally};
 use lot_words::Keeps;
@@ -82,7 +82,8 @@ pub fn lock_until<
     ensures gets { GetsAfter V.Keeps pass key result.1 result.0 }
     ensures made { (count : ℕ) × Adds pass.made (GetAfterTrace pass.thread cond key moment.now count) result.0.made
         × ((first : V) × Finds V.Keeps pass key first
-        × WaitsWhile V.grows (λ x. (v : _) × (v.now ≡ x) × F.post ready v false) count first result.1.value) }
+        × WaitsWhile V.grows (λ x. (v : _) × (v.now ≡ x) × F.post ready v false) count first result.1.value)
+        × (result.0 ≈ woken_from (owning pass key result.1.value) cond count) }
     ensures holding { OwnsNone pass → Holding V.grows result.0 result.1 }
     ensures ready { (v : _) × (v.now ≡ result.1.value) × F.post ready v true }
     ensures owns { Owns result.0 key }

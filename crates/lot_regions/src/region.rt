@@ -4,7 +4,7 @@ ghost use Rattle.lot_sync.specs.Lot.{◌≈◌, Owns, OwnsNone, HasSeen, HasShap
 ghost use Rattle.lot_sync.specs.Traces.{Adds};
 ghost use Rattle.lot_sync.specs.Values.{MayGiveBack};
 ghost use Rattle.lot_calls.specs.Visits.{MayBecome, Finds};
-ghost use Rattle.lot_calls.specs.Waits.{WaitsWhile};
+ghost use Rattle.lot_calls.specs.Waits.{WaitsWhile, woken_from};
 ghost use Rattle.lot_regions.specs.Traces.{LeaveTrace, ChangeTrace, WhenTrace};
 ghost use Rattle.lot_regions.specs.Regions.{AreConds, Region};
 
@@ -39,6 +39,7 @@ pub fn change<
     ensures visits { (v : _) × (w : _) × F.post work v result.1 w × Region V.Keeps pass key v.now w.now result.0
         × Adds pass.made (ChangeTrace (λ c. V.ready c w.now) pass.thread key moment.now (V.first key)
         (V.behind key - V.first key)) result.0.made }
+    ensures woken { result.0.woken ≡ pass.woken }
     ensures shape { HasShape lot.now result.0 }
     ensures free { OwnsNone result.0 }
 {
@@ -79,7 +80,8 @@ pub fn when<
         × (V.ready cond v.now ≡ true)
         × ((count : ℕ) × Adds pass.made (WhenTrace (λ c. V.ready c w.now) pass.thread cond count key moment.now
         (V.first key) (V.behind key - V.first key)) result.0.made × ((first : V) × Finds V.Keeps pass key first
-        × WaitsWhile V.grows (λ x. V.ready cond x ≡ false) count first v.now)) }
+        × WaitsWhile V.grows (λ x. V.ready cond x ≡ false) count first v.now)
+        × (result.0.woken ≡ (woken_from pass cond count).woken)) }
     ensures shape { HasShape lot.now result.0 }
     ensures free { OwnsNone result.0 }
 {

@@ -2,7 +2,7 @@ use Rattle.std.proofs.Common.{ap}
 use Rattle.lot_sync.specs.Lot.{PassView}
 use Rattle.lot_sync.proofs.Below.{got_waits}
 use Rattle.lot_calls.proofs.Visiting.{finds_got}
-use Rattle.lot_calls.proofs.Waiting.{got_after, after_holds, made_until}
+use Rattle.lot_calls.proofs.Waiting.{got_after, is_after, after_holds, made_until}
 use Rattle.lot_calls.proofs.until.lock_until.Goals as goal
 
 pub wait_until-requires-clause-above : goal.wait_until-requires-clause-above
@@ -36,4 +36,6 @@ returns-clause-made g c =
             c.lock-pass.ensures.shape,
         waits.while,
       ),
+      is_after c.args.pass c.lock-pass.result.0 c.wait_until.result.0 c.args.key c.args.cond c.lock-pass.result.1 c.wait_until.result.1
+          waits.count gets.key_is gets.after_is waits.after_is waits.same,
     )

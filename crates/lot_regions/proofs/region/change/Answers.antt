@@ -1,4 +1,4 @@
-use Rattle.std.proofs.Common.{◌-◌, ℕ, Bool, subst, sym, ap}
+use Rattle.std.proofs.Common.{◌-◌, ℕ, Bool, subst, sym, ap, ◌∙◌}
 use Rattle.lot_sync.specs.Lot.{PassView}
 use Rattle.lot_sync.specs.Traces.{Adds}
 use Rattle.lot_regions.specs.Traces.{ChangeTrace}
@@ -35,6 +35,10 @@ returns-clause-visits g c =
           (b - c.first_of-first.result)) c.leave.result.made)
           c.behind_of-behind.ensures made),
     )
+
+pub returns-clause-woken : goal.returns-clause-woken
+returns-clause-woken g c =
+    ap (λ (z : PassView _). z.woken) c.leave.ensures.left ∙ ap (λ (z : PassView _). z.woken) c.lock-pass.ensures.gets.after_is
 
 pub work-outcome-requires : goal.work-outcome-requires
 work-outcome-requires g c =

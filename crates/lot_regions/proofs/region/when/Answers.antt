@@ -6,6 +6,7 @@ use Rattle.lot_regions.specs.Traces.{WhenTrace}
 use Rattle.lot_regions.specs.Regions.{HasGot}
 use Rattle.lot_calls.specs.Waits.{WaitsWhile}
 use Rattle.lot_calls.proofs.Visiting.{finds_got}
+use Rattle.lot_calls.proofs.Waiting.{woken_after, woken_alike}
 use Rattle.lot_regions.proofs.Leaving.{got_after_waits, region, back, got_after_made, when_made, waits_map}
 use Rattle.lot_regions.proofs.region.when.Goals as goal
 
@@ -69,6 +70,9 @@ returns-clause-visits g c =
               subst (λ z. g.V.Ready.ready c.args.cond z ≡ false) is (search rules))
               waits.count held.value c.wait_until-pass.result.1.value waits.while),
         ),
+        ap (λ (z : PassView _). z.woken) c.leave.ensures.left
+            ∙ (woken_after q mid held.key c.args.cond waits.count c.wait_until-pass.result.1.value waits.after_is
+            ∙ woken_alike p q c.args.cond waits.count (ap (λ (z : PassView _). z.woken) gets.after_is)),
       ),
     )
 
