@@ -1,9 +1,8 @@
 //! A lot for workers, from its start to its end.
 ghost use Rattle.std.specs.Prelude.{◌≡◌, ◌≤◌, true, IfOk, IfErr, length, vec_len, vec_capacity};
 ghost use Rattle.std.specs.List.{All};
-ghost use Rattle.lot_sync.specs.Lot.{PassView, rested};
-ghost use Rattle.lot_sync.specs.Opened.{IsNamed};
-ghost use Rattle.lot_sync.specs.Starting.{Starts};
+ghost use Rattle.lot_sync.specs.Opened.{IsNamed, HasNumbersOf};
+ghost use Rattle.lot_sync.specs.Starting.{MayStart};
 ghost use Rattle.lot_calls.specs.Finished.{IsReady, IsFinished};
 ghost use Rattle.lot_calls.specs.Workers.{MayLeave, HaveGrown};
 
@@ -22,9 +21,8 @@ pub fn start_with_room<V: Keeps + Send, N: LotName<V> + Send>(
 ) -> Result<(Lot<V, N>, Vec<Pass<V, N>>), Vec<V>>
     requires named { IsNamed N.LotName opened }
     requires threads { opened.threads ≡ threads }
-    requires rests { (p : PassView V) → Starts opened.values opened.threads p → V.rests (rested p) }
-    ensures lot { IfOk result (λ r. (r.0.threads ≡ opened.threads) × (r.0.locks ≡ length opened.values)
-        × (r.0.conds ≡ opened.conds) × (r.0.sems ≡ length opened.permits)) }
+    requires rests { MayStart V.rests opened }
+    ensures lot { IfOk result (λ r. HasNumbersOf opened r.0) }
     ensures room { IfOk result (λ r. (vec_len r.1 ≡ 0) × (r.0.threads ≤ vec_capacity r.1)) }
     ensures back { IfErr result (λ values. values.items ≡ opened.values) }
 {
@@ -51,9 +49,8 @@ pub fn start_with_passes<V: Keeps + Send, N: LotName<V> + Send, T: Wait>(
 ) -> Result<(Lot<V, N>, Vec<Pass<V, N>>), Vec<V>>
     requires named { IsNamed N.LotName opened }
     requires threads { opened.threads ≡ threads }
-    requires rests { (p : PassView V) → Starts opened.values opened.threads p → V.rests (rested p) }
-    ensures lot { IfOk result (λ r. (r.0.threads ≡ opened.threads) × (r.0.locks ≡ length opened.values)
-        × (r.0.conds ≡ opened.conds) × (r.0.sems ≡ length opened.permits)) }
+    requires rests { MayStart V.rests opened }
+    ensures lot { IfOk result (λ r. HasNumbersOf opened r.0) }
     ensures ready { IfOk result (λ r. All (IsReady V.Keeps N.values r.0) r.1.items) }
     ensures all { IfOk result (λ r. (vec_len r.1 ≡ r.0.threads) × (r.0.threads ≤ vec_capacity r.1)) }
     ensures back { IfErr result (λ values. (vec_len values ≡ length opened.values)
@@ -75,9 +72,8 @@ pub fn start_counting_with_passes<V: Keeps + Send, N: LotName<V> + Send, T: Wait
 ) -> Result<(Lot<V, N, Contention>, Vec<Pass<V, N>>), Vec<V>>
     requires named { IsNamed N.LotName opened }
     requires threads { opened.threads ≡ threads }
-    requires rests { (p : PassView V) → Starts opened.values opened.threads p → V.rests (rested p) }
-    ensures lot { IfOk result (λ r. (r.0.threads ≡ opened.threads) × (r.0.locks ≡ length opened.values)
-        × (r.0.conds ≡ opened.conds) × (r.0.sems ≡ length opened.permits)) }
+    requires rests { MayStart V.rests opened }
+    ensures lot { IfOk result (λ r. HasNumbersOf opened r.0) }
     ensures ready { IfOk result (λ r. All (IsReady V.Keeps N.values r.0) r.1.items) }
     ensures all { IfOk result (λ r. (vec_len r.1 ≡ r.0.threads) × (r.0.threads ≤ vec_capacity r.1)) }
     ensures back { IfErr result (λ values. (vec_len values ≡ length opened.values)

@@ -10,7 +10,7 @@ use Rattle.lot_whole.specs.declared.views.LotPassView.{LotPassView}
 use Rattle.lot_whole.specs.declared.views.LotRootView.{LotRootView}
 use Rattle.lot_whole.specs.Family.{key_count}
 use Rattle.lot_whole.specs.Shown.{LotWordsShown, lot_of}
-use Rattle.lot_sync.specs.Lot.{LotNames}
+use Rattle.lot_sync.specs.Lot.{LotNames, LotView}
 use Rattle.lot_sync.specs.declared.many.TheConstants.{MOST_CONDS}
 use Rattle.lot_sync.specs.declared.fault.OpenFault.{OpenFault}
 use Rattle.lot_sync.specs.declared.fault.OpenFault.TheVariants.{BadThreads, BadKeys, NoMemory}
@@ -34,6 +34,11 @@ opened_as words = record {
 -- the name is that of this opening
 abbrev pub IsNamed : {V : Type 0} → LotNames V → LotNames V → Type 0
 IsNamed names opened = names ≡ opened
+
+-- the lot has the numbers of its opening
+abbrev pub HasNumbersOf : {V : Type 0} → LotNames V → LotView → Type 0
+HasNumbersOf opened lot = (lot.threads ≡ opened.threads) × (lot.locks ≡ length opened.values) × (lot.conds ≡ opened.conds)
+    × (lot.sems ≡ length opened.permits)
 
 -- nobody has used these words yet: there is a pass for each thread and a root for each key, in order, and the numbers
 -- are those of the words

@@ -1,10 +1,9 @@
 //! Starting a lot under its name: its roots go to the parking lot, its passes into the pool.
-ghost use Rattle.std.specs.Prelude.{◌≡◌, ℕ, length, vec_len, IfOk, IfErr};
+ghost use Rattle.std.specs.Prelude.{◌≡◌, ℕ, vec_len, IfOk, IfErr};
 ghost use Rattle.lot_rights.specs.Shown.{PassShown, RootShown};
 ghost use Rattle.lot_whole.specs.Shown.{LotWordsShown};
-ghost use Rattle.lot_sync.specs.Lot.{PassView, rested};
-ghost use Rattle.lot_sync.specs.Opened.{IsNamed, IsOpened};
-ghost use Rattle.lot_sync.specs.Starting.{Starts};
+ghost use Rattle.lot_sync.specs.Opened.{IsNamed, IsOpened, HasNumbersOf};
+ghost use Rattle.lot_sync.specs.Starting.{MayStart};
 
 use crate::closing::unname;
 use crate::fault::OpenFault;
@@ -56,9 +55,8 @@ impl<V: Keeps + Send> Opened<V> {
         alloc: Global,
     ) -> Result<Lot<V, N>, (OpenFault, Vec<V>)>
         requires named { IsNamed N.LotName self }
-        requires rests { (p : PassView V) → Starts self.values self.threads p → V.rests (rested p) }
-        ensures lot { IfOk result (λ lot. (lot.threads ≡ self.threads) × (lot.locks ≡ length self.values)
-            × (lot.conds ≡ self.conds) × (lot.sems ≡ length self.permits)) }
+        requires rests { MayStart V.rests self }
+        ensures lot { IfOk result (HasNumbersOf self) }
         ensures back { IfErr result (λ e. (e.0 ≡ OpenFault.NoMemory) × (e.1.items ≡ self.values)) }
     {
         self.start_as::<N, Silent>(alloc)
@@ -73,9 +71,8 @@ impl<V: Keeps + Send> Opened<V> {
         alloc: Global,
     ) -> Result<Lot<V, N, Contention>, (OpenFault, Vec<V>)>
         requires named { IsNamed N.LotName self }
-        requires rests { (p : PassView V) → Starts self.values self.threads p → V.rests (rested p) }
-        ensures lot { IfOk result (λ lot. (lot.threads ≡ self.threads) × (lot.locks ≡ length self.values)
-            × (lot.conds ≡ self.conds) × (lot.sems ≡ length self.permits)) }
+        requires rests { MayStart V.rests self }
+        ensures lot { IfOk result (HasNumbersOf self) }
         ensures back { IfErr result (λ e. (e.0 ≡ OpenFault.NoMemory) × (e.1.items ≡ self.values)) }
     {
         self.start_as::<N, Contention>(alloc)
@@ -86,9 +83,8 @@ impl<V: Keeps + Send> Opened<V> {
         alloc: Global,
     ) -> Result<Lot<V, N, C>, (OpenFault, Vec<V>)>
         requires named { IsNamed N.LotName self }
-        requires rests { (p : PassView V) → Starts self.values self.threads p → V.rests (rested p) }
-        ensures lot { IfOk result (λ lot. (lot.threads ≡ self.threads) × (lot.locks ≡ length self.values)
-            × (lot.conds ≡ self.conds) × (lot.sems ≡ length self.permits)) }
+        requires rests { MayStart V.rests self }
+        ensures lot { IfOk result (HasNumbersOf self) }
         ensures back { IfErr result (λ e. (e.0 ≡ OpenFault.NoMemory) × (e.1.items ≡ self.values)) }
     {
         match Rooms::<V, N, C>::new(alloc, self.threads, self.roots.len(), self.conds) {
@@ -104,9 +100,8 @@ fn started<V: Keeps + Send, N: LotName<V> + Send, C: Tally + Send>(
     rooms: Rooms<V, N, C>,
 ) -> Result<Lot<V, N, C>, (OpenFault, Vec<V>)>
     requires named { IsNamed N.LotName opened }
-    requires rests { (p : PassView V) → Starts opened.values opened.threads p → V.rests (rested p) }
-    ensures lot { IfOk result (λ lot. (lot.threads ≡ opened.threads) × (lot.locks ≡ length opened.values)
-        × (lot.conds ≡ opened.conds) × (lot.sems ≡ length opened.permits)) }
+    requires rests { MayStart V.rests opened }
+    ensures lot { IfOk result (HasNumbersOf opened) }
     ensures back { IfErr result (λ e. (e.0 ≡ OpenFault.NoMemory) × (e.1.items ≡ opened.values)) }
 {
     let Opened {

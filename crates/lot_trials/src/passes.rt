@@ -1,9 +1,9 @@
 //! Lots in tests and their passes: how a lot opens and starts, how a thread gets a pass, and how one comes back that
 //! was left.
-ghost use Rattle.std.specs.Prelude.{◌≡◌, ◌≤◌, ◌<◌, length, vec_len, vec_capacity};
-ghost use Rattle.lot_sync.specs.Lot.{PassView, OwnsNone, rested};
-ghost use Rattle.lot_sync.specs.Opened.{KeepAll, IsNamed};
-ghost use Rattle.lot_sync.specs.Starting.{Starts};
+ghost use Rattle.std.specs.Prelude.{◌≡◌, ◌≤◌, ◌<◌, vec_len, vec_capacity};
+ghost use Rattle.lot_sync.specs.Lot.{OwnsNone, rested};
+ghost use Rattle.lot_sync.specs.Opened.{KeepAll, IsNamed, HasNumbersOf};
+ghost use Rattle.lot_sync.specs.Starting.{MayStart};
 
 use crate::asserts::{failed, room_for};
 use lot_sync::{Lot, LotName, Opened, Pass, Tally};
@@ -39,9 +39,8 @@ pub(crate) fn start<V: Keeps + Send, N: LotName<V> + Send, T: Abort>(
 ) -> (Lot<V, N>, Vec<Pass<V, N>>)
     requires named { IsNamed N.LotName opened }
     requires threads { opened.threads ≡ threads }
-    requires rests { (p : PassView V) → Starts opened.values opened.threads p → V.rests (rested p) }
-    ensures lot { (result.0.threads ≡ opened.threads) × (result.0.locks ≡ length opened.values)
-        × (result.0.conds ≡ opened.conds) × (result.0.sems ≡ length opened.permits) }
+    requires rests { MayStart V.rests opened }
+    ensures lot { HasNumbersOf opened result.0 }
     ensures room { (vec_len result.1 ≡ 0) × (threads ≤ vec_capacity result.1) }
 {
     let passes = room_for(rt, alloc, threads);

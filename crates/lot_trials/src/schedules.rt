@@ -1,6 +1,6 @@
 //! Schedules: what threads do on a lot one after the other, row by row, and what each row leaves.
 ghost use Rattle.std.specs.Prelude.{◌≡◌, ◌≤◌, length, vec_len, vec_capacity, IfOk};
-ghost use Rattle.lot_sync.specs.Opened.{IsNamed};
+ghost use Rattle.lot_sync.specs.Opened.{IsNamed, HasNumbersOf};
 ghost use Rattle.lot_trials.specs.Schedules.{HasSizes};
 
 use crate::asserts::{equal, failed, is_so};
@@ -174,8 +174,7 @@ pub(crate) fn try_start<N: LotName<Count> + Send + Sync, T: Abort>(
     memory: Memory,
 ) -> Result<(Lot<Count, N>, Vec<Pass<Count, N>>), Vec<Count>>
     requires named { IsNamed N.LotName opened }
-    ensures lot { IfOk result (λ r. (r.0.threads ≡ opened.threads) × (r.0.locks ≡ length opened.values)
-        × (r.0.conds ≡ opened.conds) × (r.0.sems ≡ length opened.permits)) }
+    ensures lot { IfOk result (λ r. HasNumbersOf opened r.0) }
     ensures room { IfOk result (λ r. (vec_len r.1 ≡ 0) × (threads ≤ vec_capacity r.1)) }
 {
     let Ok(passes) = Vec::with_capacity(alloc, threads) else {
