@@ -35,7 +35,7 @@ LookTrace t c has acts = acts ≡ Makes (Look t c) (Saw has) ∷ []
 abbrev pub NobodyTrace : ℕ → ℕ → ℕ → List Access → Type 0
 NobodyTrace t c taken acts = (taken ≡ 0) × (acts ≡ trace_of_nobody t c)
 
--- a notification of n threads at most, which took so many
+-- a notification of n threads, which took so many
 abbrev pub NotifyTrace : ℕ → ℕ → ℕ → ℕ → List Access → Type 0
 NotifyTrace t c n taken acts = NobodyTrace t c taken acts ⊎ CallTrace t c n taken acts
 

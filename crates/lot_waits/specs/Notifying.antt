@@ -25,8 +25,8 @@ one_if true = 1
 one_if false = 0
 
 -- ---- traces
--- A notification that takes at most n, after a look that found the flag set; and what it took, so many. It leaves the
--- flag set only where it took somebody.
+-- A notification of n threads, after a look that found the flag set; and how many it took. It leaves the flag set only
+-- where it took somebody.
 abbrev pub CallTrace : ℕ → ℕ → ℕ → ℕ → List Access → Type 0
 CallTrace t c n taken acts =
     (more : Bool) × (more ≡ true → 0 < taken)
@@ -50,7 +50,7 @@ module _ {V : Type 0} where
   abbrev pub MayCall : ℕ → ℕ → LotStanding V → ℕ → Type 0
   MayCall locks first_sem p c = IsCondKey locks first_sem c × IsIdle p.own
 
-  -- so many were taken from c's line, of n at most; its flag stays set where more may wait
+  -- so many were taken from c's line, of n that were asked for; its flag stays set where more may wait
   abbrev pub Calls : LotStanding V → ℕ → ℕ → ℕ → Bool → LotStanding V → Type 0
   Calls p c n taken more q = q ≡ adding (stand_called_more p c taken) (Makes (Call p.thread c n more) (Count taken) ∷ [])
 
@@ -67,7 +67,7 @@ module _ {V : Type 0} where
   abbrev pub FindsNobody : LotStanding V → ℕ → ℕ → LotStanding V → Type 0
   FindsNobody p c taken q = (taken ≡ 0) × (q ≡ adding p (trace_of_nobody p.thread c))
 
-  -- so many were taken from c's line, of n at most
+  -- so many were taken from c's line, of n that were asked for
   abbrev pub Notifies : LotStanding V → ℕ → ℕ → ℕ → LotStanding V → Type 0
   Notifies p c n taken q =
       FindsNobody p c taken q
