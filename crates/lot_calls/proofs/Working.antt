@@ -8,6 +8,7 @@ use Rattle.lot_rights.proofs.Totals.{any_all}
 use Rattle.lot_words.specs.CallersRule.{CallersRule}
 use Rattle.lot_words.proofs.Opens.{get_as}
 use Rattle.lot_sync.specs.Lot.{LotNames, LotView, PassView, HasSeen}
+use Rattle.lot_sync.specs.Opened.{KeepAll}
 use Rattle.lot_sync.specs.Values.{GoesOnTo, AreSeen}
 use Rattle.lot_calls.specs.Visits.{own_parts}
 use Rattle.lot_calls.specs.Finished.{IsReady, AreTaken, IsFinished}
@@ -41,6 +42,13 @@ pub same_grown : {V Part : Type 0} (rule : CallersRule V Part) (opening values :
 same_grown rule opening values same key u v lay lies =
     let there = get_as opening key v (subst (λ xs. slice_get xs key ≡ Some v) same lies) in
     subst (rule.grows u) (some-injective u v (sym lay ∙ there)) (rule.grows_itself u)
+
+-- values that some pass saw last, and that go on from what each had seen, keep the rule
+pub seen_kept : {V Part : Type 0} (rule : CallersRule V Part) (passes : List (PassView V)) (values : List V)
+    → All (GoesOnTo rule values) passes → AreSeen values passes → KeepAll rule.keeps values
+seen_kept rule passes values goes seen key v lies =
+    let (p, saw, on) = any_all (λ (p : PassView _). HasSeen p key v) (GoesOnTo rule values) passes (seen key v lies) goes in
+    on.kept key v lies
 
 -- what the passes had seen ended in the values
 pub all_end : {V Part : Type 0} (rule : CallersRule V Part) (lot : LotView) (passes : List (PassView V)) (values : List V)

@@ -6,6 +6,7 @@ ghost use Rattle.std.specs.Thread.{IsSync, IsSend};
 ghost use Rattle.lot_sync.specs.Lot.{IsLedgerOf};
 ghost use Rattle.lot_sync.specs.Values.{AreSeen};
 ghost use Rattle.lot_sync.specs.Closing.{HasOneRun};
+ghost use Rattle.lot_sync.specs.Opened.{KeepAll};
 ghost use Rattle.lot_calls.specs.Workers.{EachBecomes, AreBack, EndsIn};
 
 use lot_sync::{Ledger, Lot, LotName, Pass, Tally};
@@ -81,6 +82,7 @@ pub fn close_with<V: Keeps + Send, N: LotName<V> + Send, C: Tally + Send, T: Wai
 ) -> (Vec<V>, Ledger)
     requires back { AreBack lot passes.items }
     ensures count { vec_len result.0 ≡ lot.locks }
+    ensures kept { KeepAll V.keeps result.0.items }
     ensures ends { All (EndsIn V.Keeps result.0.items) passes.items }
     ensures seen { AreSeen result.0.items passes.items }
     ensures ledger { IsLedgerOf lot passes.items result.1.called.items result.1.woken.items }

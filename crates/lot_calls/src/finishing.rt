@@ -1,6 +1,8 @@
 //! The end of a lot.
 ghost use Rattle.std.specs.Prelude.{◌≡◌, ◌≤◌, vec_len, vec_capacity};
+ghost use Rattle.lot_sync.specs.Opened.{KeepAll};
 ghost use Rattle.lot_calls.specs.Finished.{IsReady, AreTaken, IsFinished};
+ghost use Rattle.lot_calls.specs.Workers.{HaveGrown};
 
 use lot_sync::{Ledger, Lot, LotName, Pass, Tally};
 use lot_words::Keeps;
@@ -8,7 +10,7 @@ use std::sync::Wait;
 use std::thread;
 
 /// Ends the lot when each thread has left: takes all passes into the list, which has room for them, and closes. It
-/// answers the value of each lock, in order, and the ledger of the conditions:
+/// answers the value of each lock, in order, which keeps the caller's invariant, and the ledger of the conditions:
 /// `let (values, ledger) = finish(rt, lot, Vec::with_capacity(alloc, threads)?);`. While a pass is out it never
 /// returns.
 pub fn finish<V: Keeps + Send, N: LotName<V> + Send, C: Tally + Send, T: Wait>(
@@ -18,6 +20,8 @@ pub fn finish<V: Keeps + Send, N: LotName<V> + Send, C: Tally + Send, T: Wait>(
 ) -> (Vec<V>, Ledger)
     requires room { (vec_len passes ≡ 0) × (lot.threads ≤ vec_capacity passes) }
     ensures count { vec_len result.0 ≡ lot.locks }
+    ensures kept { KeepAll V.keeps result.0.items }
+    ensures grown { HaveGrown V.Keeps N.values result.0.items }
     ensures finished { IsFinished V.Keeps N.LotName lot result.0.items result.1.called.items result.1.woken.items }
     ensures balanced { result.1.called.items ≡ result.1.woken.items }
 {

@@ -1,7 +1,7 @@
 //! A lot for workers, from its start to its end.
 ghost use Rattle.std.specs.Prelude.{◌≡◌, ◌≤◌, true, IfOk, IfErr, length, vec_len, vec_capacity};
 ghost use Rattle.std.specs.List.{All};
-ghost use Rattle.lot_sync.specs.Opened.{IsNamed, HasNumbersOf};
+ghost use Rattle.lot_sync.specs.Opened.{IsNamed, HasNumbersOf, KeepAll};
 ghost use Rattle.lot_sync.specs.Starting.{MayStart};
 ghost use Rattle.lot_calls.specs.Finished.{IsReady, IsFinished};
 ghost use Rattle.lot_calls.specs.Workers.{MayLeave, HaveGrown};
@@ -158,6 +158,8 @@ pub fn finish_with<V: Keeps + Send, N: LotName<V> + Send, C: Tally + Send, T: Wa
     requires leave { All (MayLeave V.Keeps) passes.items }
     requires room { lot.threads ≤ vec_capacity passes }
     ensures count { vec_len result.0 ≡ lot.locks }
+    ensures kept { KeepAll V.keeps result.0.items }
+    ensures grown { HaveGrown V.Keeps N.values result.0.items }
     ensures finished { IsFinished V.Keeps N.LotName lot result.0.items result.1.called.items result.1.woken.items }
     ensures balanced { result.1.called.items ≡ result.1.woken.items }
 {
