@@ -71,47 +71,37 @@ number_told saw n is small = record {
 pub truth_told : (saw : Seen) → TellsTruth saw → IsTold saw
 truth_told (Saw true) tells = record { word = codes "true"; is = refl; no_space = refl; no_feed = refl }
 truth_told (Saw false) tells = record { word = codes "false"; is = refl; no_space = refl; no_feed = refl }
-truth_told Done tells = absurd tells
-truth_told (Sleeper u) tells = absurd tells
-truth_told (Count n) tells = absurd tells
+truth_told _ tells = absurd tells
 
 pub nothing_told : (saw : Seen) → TellsNothing saw → IsTold saw
 nothing_told Done tells = record { word = codes "done"; is = refl; no_space = refl; no_feed = refl }
-nothing_told (Saw b) tells = absurd tells
-nothing_told (Sleeper u) tells = absurd tells
-nothing_told (Count n) tells = absurd tells
+nothing_told _ tells = absurd tells
 
 pub sleeper_told : (saw : Seen) → TellsSleeper saw → IsTold saw
 sleeper_told (Sleeper None) tells = record { word = codes "-"; is = refl; no_space = refl; no_feed = refl }
 sleeper_told (Sleeper (Some t)) tells = number_told (Sleeper (Some t)) t refl tells
-sleeper_told Done tells = absurd tells
-sleeper_told (Saw b) tells = absurd tells
-sleeper_told (Count n) tells = absurd tells
+sleeper_told _ tells = absurd tells
 
 pub count_told : (saw : Seen) → TellsCount saw → IsTold saw
 count_told (Count n) tells = number_told (Count n) n refl tells
-count_told Done tells = absurd tells
-count_told (Saw b) tells = absurd tells
-count_told (Sleeper u) tells = absurd tells
+count_told _ tells = absurd tells
+
+-- what holds of the four kinds of sight holds of what any event can see
+pub by_sight : (P : (Seen → Type 0) → Type 0) → P TellsTruth → P TellsNothing → P TellsSleeper → P TellsCount
+    → (e : Event) → P (IsSightOf e)
+by_sight P truth nothing sleeper count (event.Mark t l) = nothing
+by_sight P truth nothing sleeper count (event.Pass t l fair more) = sleeper
+by_sight P truth nothing sleeper count (event.Enlist t c l) = nothing
+by_sight P truth nothing sleeper count (event.Call t c n more) = count
+by_sight P truth nothing sleeper count (event.Lower t c) = nothing
+by_sight P truth nothing sleeper count (event.Sweep t c) = count
+by_sight P truth nothing sleeper count (event.SemMark t k) = nothing
+by_sight P truth nothing sleeper count (event.SemPass t k more) = sleeper
+by_sight P truth nothing sleeper count (event.SemClear t k) = nothing
+by_sight P truth nothing sleeper count _ = truth
 
 pub sight_told : (e : Event) (saw : Seen) → IsSightOf e saw → IsTold saw
-sight_told (event.Try t l) = truth_told
-sight_told (event.Take t l) = truth_told
-sight_told (event.Mark t l) = nothing_told
-sight_told (event.Park t l) = truth_told
-sight_told (event.Free t l) = truth_told
-sight_told (event.Pass t l fair more) = sleeper_told
-sight_told (event.Enlist t c l) = nothing_told
-sight_told (event.Look t c) = truth_told
-sight_told (event.Call t c n more) = count_told
-sight_told (event.Lower t c) = nothing_told
-sight_told (event.Sweep t c) = count_told
-sight_told (event.SemTake t k) = truth_told
-sight_told (event.SemMark t k) = nothing_told
-sight_told (event.SemPark t k) = truth_told
-sight_told (event.SemFree t k) = truth_told
-sight_told (event.SemPass t k more) = sleeper_told
-sight_told (event.SemClear t k) = nothing_told
+sight_told = by_sight (λ Tells. (saw : Seen) → Tells saw → IsTold saw) truth_told nothing_told sleeper_told count_told
 
 -- the line without its end is the event, a space and a word
 pub record IsCut (line : List ℕ) (x : Sighting) : Type 0 where

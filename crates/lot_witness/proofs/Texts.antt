@@ -7,7 +7,6 @@ use Rattle.std.specs.Prelude.{codes, ◌==◌, not, Err}
 use Rattle.std.proofs.lemmas.Bool.{and_parts}
 use Rattle.std.proofs.lemmas.List.{append-nil}
 use Rattle.lot_events.specs.declared.events.Event.{Event}
-use Rattle.lot_events.specs.declared.events.Event.TheVariants as event
 use Rattle.lot_events.specs.declared.events.Seen.{Seen}
 use Rattle.lot_events.specs.declared.events.Seen.TheVariants.{Bool as Saw, Done, Sleeper, Count}
 use Rattle.lot_events.specs.Reading.{field_at, number_at, end_at, open_at}
@@ -25,7 +24,7 @@ use Rattle.lot_witness.specs.Spelling.{told, TellsTruth, TellsNothing, TellsSlee
 use Rattle.lot_witness.specs.Spelling.{NoSighting, BeginsWithAll, AreAll, Opens, SpellsWitness, IsBadLine}
 use Rattle.lot_witness.specs.Spelling.{IsFirstBad, IsFaulty, Reads}
 use Rattle.lot_witness.proofs.Clean.{clean, clean_at, IsOneLine, line_is_one}
-use Rattle.lot_witness.proofs.Lines.{sighting_is_one, IsCut, IsLastSpace, cut, cut_at, space_at, behind_space, number_read}
+use Rattle.lot_witness.proofs.Lines.{by_sight, sighting_is_one, IsCut, IsLastSpace, cut, cut_at, space_at, behind_space, number_read}
 
 -- one more line
 pub all_push : (text : List ℕ) (xs : List Sighting) (rest : List ℕ) (x : Sighting) (behind : List ℕ) → BeginsWithAll text xs rest →
@@ -135,63 +134,31 @@ no_number n small is = let read = sym no_field ∙ number_read (codes " -") n sm
 pub same_truth : (a b : Seen) → TellsTruth a → TellsTruth b → told a ≡ told b → a ≡ b
 same_truth (Saw true) (Saw true) p q is = refl
 same_truth (Saw false) (Saw false) p q is = refl
-same_truth (Saw true) (Saw false) p q is = absurd (cc)
-same_truth (Saw false) (Saw true) p q is = absurd (cc)
-same_truth (Saw b) Done p q is = absurd q
-same_truth (Saw b) (Sleeper u) p q is = absurd q
-same_truth (Saw b) (Count n) p q is = absurd q
-same_truth Done b p q is = absurd p
-same_truth (Sleeper u) b p q is = absurd p
-same_truth (Count n) b p q is = absurd p
+same_truth (Saw _) (Saw _) p q is = absurd (cc)
+same_truth (Saw _) _ p q is = absurd q
+same_truth _ _ p q is = absurd p
 
 pub same_nothing : (a b : Seen) → TellsNothing a → TellsNothing b → told a ≡ told b → a ≡ b
 same_nothing Done Done p q is = refl
-same_nothing Done (Saw b) p q is = absurd q
-same_nothing Done (Sleeper u) p q is = absurd q
-same_nothing Done (Count n) p q is = absurd q
-same_nothing (Saw b) c p q is = absurd p
-same_nothing (Sleeper u) c p q is = absurd p
-same_nothing (Count n) c p q is = absurd p
+same_nothing Done _ p q is = absurd q
+same_nothing _ _ p q is = absurd p
 
 pub same_sleeper : (a b : Seen) → TellsSleeper a → TellsSleeper b → told a ≡ told b → a ≡ b
 same_sleeper (Sleeper None) (Sleeper None) p q is = refl
 same_sleeper (Sleeper None) (Sleeper (Some n)) p q is = absurd (no_number n q is)
 same_sleeper (Sleeper (Some n)) (Sleeper None) p q is = absurd (no_number n p (sym is))
 same_sleeper (Sleeper (Some n)) (Sleeper (Some m)) p q is = ap (λ k. Sleeper (Some k)) (same_number n m p q is)
-same_sleeper (Sleeper u) Done p q is = absurd q
-same_sleeper (Sleeper u) (Saw b) p q is = absurd q
-same_sleeper (Sleeper u) (Count n) p q is = absurd q
-same_sleeper Done b p q is = absurd p
-same_sleeper (Saw b) c p q is = absurd p
-same_sleeper (Count n) b p q is = absurd p
+same_sleeper (Sleeper _) _ p q is = absurd q
+same_sleeper _ _ p q is = absurd p
 
 pub same_count : (a b : Seen) → TellsCount a → TellsCount b → told a ≡ told b → a ≡ b
 same_count (Count n) (Count m) p q is = ap Count (same_number n m p q is)
-same_count (Count n) Done p q is = absurd q
-same_count (Count n) (Saw b) p q is = absurd q
-same_count (Count n) (Sleeper u) p q is = absurd q
-same_count Done b p q is = absurd p
-same_count (Saw b) c p q is = absurd p
-same_count (Sleeper u) b p q is = absurd p
+same_count (Count _) _ p q is = absurd q
+same_count _ _ p q is = absurd p
 
 pub same_sight : (e : Event) (a b : Seen) → IsSightOf e a → IsSightOf e b → told a ≡ told b → a ≡ b
-same_sight (event.Try t l) = same_truth
-same_sight (event.Take t l) = same_truth
-same_sight (event.Mark t l) = same_nothing
-same_sight (event.Park t l) = same_truth
-same_sight (event.Free t l) = same_truth
-same_sight (event.Pass t l fair more) = same_sleeper
-same_sight (event.Enlist t c l) = same_nothing
-same_sight (event.Look t c) = same_truth
-same_sight (event.Call t c n more) = same_count
-same_sight (event.Lower t c) = same_nothing
-same_sight (event.Sweep t c) = same_count
-same_sight (event.SemTake t k) = same_truth
-same_sight (event.SemMark t k) = same_nothing
-same_sight (event.SemPark t k) = same_truth
-same_sight (event.SemFree t k) = same_truth
-same_sight (event.SemPass t k more) = same_sleeper
-same_sight (event.SemClear t k) = same_nothing
+same_sight =
+    by_sight (λ Tells. (a b : Seen) → Tells a → Tells b → told a ≡ told b → a ≡ b) same_truth same_nothing same_sleeper same_count
 
 -- so a line spells one sighting
 pub one_cut : (line : List ℕ) (x y : Sighting) → IsCut line x → IsCut line y → x ≡ y

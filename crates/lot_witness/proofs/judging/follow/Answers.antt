@@ -1,6 +1,5 @@
 use Rattle.std.proofs.Common.{refl, sym, ◌∙◌}
 use Rattle.std.proofs.lemmas.List.{get_or_default}
-use Rattle.lot_core.specs.State.{state_of}
 use Rattle.lot_witness.specs.Judging.{IsNotAllowed, SeesOtherwise, LacksMemory}
 use Rattle.lot_witness.proofs.Runs.{so_more, so_stops, lacks, refuses}
 use Rattle.lot_witness.proofs.judging.follow.Goals as goal
@@ -9,7 +8,7 @@ pub returns-then-not-is_that-clause-err : goal.returns-then-not-is_that-clause-e
 returns-then-not-is_that-clause-err c = (
   c.loop-before.before,
   refl,
-  so_stops (state_of c.args.state.now) (state_of c.loop-before.state) c.args.sightings.now c.loop-before.before _ SeesOtherwise
+  so_stops _ _ _ _ _ SeesOtherwise
       c.loop-before.invariant c.loop-before-test.true
       (c.in-Ok.ensures.0, λ e. let same = c.if-not-is_that.ensures.1 (c.in-Ok.ensures.2 ∙ e) in absurd (cc)),
 )
@@ -17,7 +16,7 @@ returns-then-not-is_that-clause-err c = (
 pub returns-in-Err-NoMemory-clause-err : goal.returns-in-Err-NoMemory-clause-err
 returns-in-Err-NoMemory-clause-err c = (
   c.loop-before.before,
-  so_stops (state_of c.args.state.now) (state_of c.loop-before.state) c.args.sightings.now c.loop-before.before _ LacksMemory
+  so_stops _ _ _ _ _ LacksMemory
       c.loop-before.invariant c.loop-before-test.true
       (lacks _ _ _ c.in-Err-NoMemory.field-0 c.in-Err-NoMemory.ensures c.in-Err-NoMemory.field-0-is),
 )
@@ -26,14 +25,13 @@ pub returns-in-Err-NotEnabled-clause-err : goal.returns-in-Err-NotEnabled-clause
 returns-in-Err-NotEnabled-clause-err c = (
   c.loop-before.before,
   refl,
-  so_stops (state_of c.args.state.now) (state_of c.loop-before.state) c.args.sightings.now c.loop-before.before _ IsNotAllowed
+  so_stops _ _ _ _ _ IsNotAllowed
       c.loop-before.invariant c.loop-before-test.true
       (refuses _ _ _ c.in-Err-NotEnabled.field-0 c.in-Err-NotEnabled.ensures c.in-Err-NotEnabled.field-0-is),
 )
 
 pub loop-before-preserved : goal.loop-before-preserved
 loop-before-preserved c =
-    so_more (state_of c.args.state.now) (state_of c.loop-before.state) (state_of c.step.new.self) c.args.sightings.now
-    c.loop-before.before _ c.loop-before.invariant c.loop-before-test.true
+    so_more _ _ _ _ _ _ c.loop-before.invariant c.loop-before-test.true
     (get_or_default c.args.sightings.now c.loop-before.before _ _ c.loop-before-test.true) c.in-Ok.ensures.0 c.in-Ok.ensures.1
     (sym c.in-Ok.ensures.2 ∙ c.if-not-is_that.ensures.0 refl)
