@@ -43,6 +43,13 @@ impl Counts {
         }
     }
 
+    // Whether the count of the thread is one.
+    fn tells_of(&self, thread: usize) -> bool
+        ensures { IsTrue result ↔ (thread < length self.now) × (slice_index self.now thread < TOO_MANY) }
+    {
+        thread < self.counts.len() && self.counts[thread] < TOO_MANY
+    }
+
     /// Whether the thread stands in the list, where its count can tell.
     pub fn has(&self, thread: usize) -> Option<bool>
         ensures has { (threads : List ℕ) → AreCounted self.now threads
@@ -59,7 +66,7 @@ impl Counts {
             → AreCounted self.new (threads ++ thread ∷ []) }
         ensures bound { length self.new ≡ length self.old }
     {
-        if thread < self.counts.len() && self.counts[thread] < TOO_MANY {
+        if self.tells_of(thread) {
             self.counts[thread] += 1;
         }
     }
@@ -70,7 +77,7 @@ impl Counts {
             → slice_index threads i ≡ thread → AreCounted self.new (remove threads i) }
         ensures bound { length self.new ≡ length self.old }
     {
-        if thread < self.counts.len() && self.counts[thread] < TOO_MANY {
+        if self.tells_of(thread) {
             let count = &mut self.counts[thread];
             *count = count.saturating_sub(1);
         }
