@@ -13,65 +13,55 @@ loop-key-init g c = record {
 
 below : (g : Over) (c : Else-not-has_key g) → c.loop-key.key < c.requires.0
 below g c =
-    is_key g.R.Root.view c.requires.0 c.args.old.now c.args.new.now c.requires.1 c.loop-key.key c.loop-key.old c.loop-key.new
-    c.loop-key.invariant.moved
-    c.index-old-key.result (sym c.if-not-has_key.ensures)
+    is_key _ _ _ _ c.requires.1 _ _ _ c.loop-key.invariant.moved c.index-old-key.result (sym c.if-not-has_key.ensures)
 
 -- a key was not there, so all were moved
 all : (g : Over) (c : Then-not-has_key g) → AreMoved c.requires.0 c.args.old.now c.args.new.now c.loop-key.old c.loop-key.new
 all g c =
-    moved_ends g.R.Root.view c.requires.0 c.args.old.now c.args.new.now c.requires.1 c.loop-key.key c.loop-key.old c.loop-key.new
-    (c.loop-key.invariant.within c.requires.0 c.requires.1)
-    (no_key g.R.Root.view c.requires.0 c.args.old.now c.args.new.now c.requires.1 c.loop-key.key c.loop-key.old c.loop-key.new
-    c.loop-key.invariant.moved
-    c.index-old-key.result (sym c.if-not-has_key.ensures))
+    moved_ends _ _ _ _ c.requires.1 _ _ _ (c.loop-key.invariant.within c.requires.0 c.requires.1)
+    (no_key _ _ _ _ c.requires.1 _ _ _ c.loop-key.invariant.moved c.index-old-key.result (sym c.if-not-has_key.ensures))
     c.loop-key.invariant.moved
 
 pub returns-then-not-has_key-clause-lines : goal.returns-then-not-has_key-clause-lines
 returns-then-not-has_key-clause-lines g c =
-    moved_lines g.R.Root.view c.requires.0 c.args.old.now c.args.new.now c.requires.1 c.loop-key.old c.loop-key.new (all g c)
+    moved_lines _ _ _ _ c.requires.1 _ _ (all g c)
 
 pub returns-then-not-has_key-clause-filled : goal.returns-then-not-has_key-clause-filled
 returns-then-not-has_key-clause-filled g c =
-    moved_filled_for g.R.Root.view c.requires.0 c.args.old.now c.args.new.now c.requires.1 c.loop-key.old c.loop-key.new (all g c)
+    moved_filled_for _ _ _ _ c.requires.1 _ _ (all g c)
 
 pub returns-then-not-has_key-clause-left : goal.returns-then-not-has_key-clause-left
 returns-then-not-has_key-clause-left g c =
-    moved_empty g.R.Root.view c.requires.0 c.args.old.now c.args.new.now c.requires.1 c.loop-key.old c.loop-key.new (all g c)
+    moved_empty _ _ _ _ c.requires.1 _ _ (all g c)
 
 pub move_key-requires-clause-root : goal.move_key-requires-clause-root
 move_key-requires-clause-root g c κs within =
-    may_root g.R.Root.view c.requires.0 c.args.old.now c.args.new.now c.requires.1 c.loop-key.key c.loop-key.old c.loop-key.new
-    c.loop-key.invariant.moved
-    c.index-old-key-in-loop-key.result c.index-new-key.result (below g (goal.at.move_key-requires-clause-root g c).Else-not-has_key)
+    may_root _ _ _ _ c.requires.1 _ _ _ c.loop-key.invariant.moved c.index-old-key-in-loop-key.result c.index-new-key.result
+    (below g (goal.at.move_key-requires-clause-root g c).Else-not-has_key)
 
 pub move_key-requires-clause-has : goal.move_key-requires-clause-has
 move_key-requires-clause-has g c κs within =
-    may_has g.R.Root.view c.requires.0 c.args.old.now c.args.new.now c.requires.1 c.loop-key.key c.loop-key.old c.loop-key.new
-    c.loop-key.invariant.moved
-    c.index-old-key-in-loop-key.result c.index-new-key.result (below g (goal.at.move_key-requires-clause-has g c).Else-not-has_key)
+    may_has _ _ _ _ c.requires.1 _ _ _ c.loop-key.invariant.moved c.index-old-key-in-loop-key.result c.index-new-key.result
+    (below g (goal.at.move_key-requires-clause-has g c).Else-not-has_key)
 
 pub move_key-requires-clause-free : goal.move_key-requires-clause-free
 move_key-requires-clause-free g c κs within =
-    may_free g.R.Root.view c.requires.0 c.args.old.now c.args.new.now c.requires.1 c.loop-key.key c.loop-key.old c.loop-key.new
-    c.loop-key.invariant.moved
-    c.index-old-key-in-loop-key.result c.index-new-key.result (below g (goal.at.move_key-requires-clause-free g c).Else-not-has_key)
+    may_free _ _ _ _ c.requires.1 _ _ _ c.loop-key.invariant.moved c.index-old-key-in-loop-key.result c.index-new-key.result
+    (below g (goal.at.move_key-requires-clause-free g c).Else-not-has_key)
 
 pub move_key-requires-clause-room : goal.move_key-requires-clause-room
 move_key-requires-clause-room g c κs within =
-    may_room g.R.Root.view c.requires.0 c.args.old.now c.args.new.now c.requires.1 c.loop-key.key c.loop-key.old c.loop-key.new
-    c.loop-key.invariant.moved
-    c.index-old-key-in-loop-key.result c.index-new-key.result (below g (goal.at.move_key-requires-clause-room g c).Else-not-has_key)
+    may_room _ _ _ _ c.requires.1 _ _ _ c.loop-key.invariant.moved c.index-old-key-in-loop-key.result c.index-new-key.result
+    (below g (goal.at.move_key-requires-clause-room g c).Else-not-has_key)
 
 pub loop-key-preserved : goal.loop-key-preserved
 loop-key-preserved g c = record {
   within = λ n may.
-      let lt : c.loop-key.key < n = is_key g.R.Root.view n c.args.old.now c.args.new.now may c.loop-key.key c.loop-key.old c.loop-key.new
+      let lt : c.loop-key.key < n = is_key _ _ _ _ may _ _ _
       c.loop-key.invariant.moved c.index-old-key.result (sym c.if-not-has_key.ensures) in
       omega arith;
   moved =
-      moved_more g.R.Root.view c.requires.0 c.args.old.now c.args.new.now c.requires.1 c.loop-key.key c.loop-key.old c.loop-key.new
-      c.loop-key.invariant.moved
+      moved_more _ _ _ _ c.requires.1 _ _ _ c.loop-key.invariant.moved
       c.index-old-key-in-loop-key.result c.index-new-key.result (below g (goal.at.loop-key-preserved g c).Else-not-has_key)
       c.move_key.new.from c.move_key.new.to c.move_key.ensures.left c.move_key.ensures.come;
 }
@@ -81,17 +71,16 @@ last : (g : Over) (c : After-loop-key g) → AreMoved c.requires.0 c.args.old.no
 last g c =
     let le = c.loop-key.invariant.within c.requires.0 c.requires.1 in
     let few = c.requires.1.few in
-    moved_ends g.R.Root.view c.requires.0 c.args.old.now c.args.new.now c.requires.1 c.loop-key.key c.loop-key.old c.loop-key.new le
-    (omega arith) c.loop-key.invariant.moved
+    moved_ends _ _ _ _ c.requires.1 _ _ _ le (omega arith) c.loop-key.invariant.moved
 
 pub returns-clause-lines : goal.returns-clause-lines
 returns-clause-lines g c =
-    moved_lines g.R.Root.view c.requires.0 c.args.old.now c.args.new.now c.requires.1 c.loop-key.old c.loop-key.new (last g c)
+    moved_lines _ _ _ _ c.requires.1 _ _ (last g c)
 
 pub returns-clause-filled : goal.returns-clause-filled
 returns-clause-filled g c =
-    moved_filled_for g.R.Root.view c.requires.0 c.args.old.now c.args.new.now c.requires.1 c.loop-key.old c.loop-key.new (last g c)
+    moved_filled_for _ _ _ _ c.requires.1 _ _ (last g c)
 
 pub returns-clause-left : goal.returns-clause-left
 returns-clause-left g c =
-    moved_empty g.R.Root.view c.requires.0 c.args.old.now c.args.new.now c.requires.1 c.loop-key.old c.loop-key.new (last g c)
+    moved_empty _ _ _ _ c.requires.1 _ _ (last g c)

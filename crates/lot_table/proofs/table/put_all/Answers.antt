@@ -14,17 +14,15 @@ pub put_root-requires-clause-has : goal.put_root-requires-clause-has
 put_root-requires-clause-has g c =
     let count : c.len-key.result ≡ length c.pop.new.self.items = c.len-key.ensures ∙ c.pop.new.self.ok.0 in
     rw count
-    (filling_has c.requires.fresh.0 c.args.roots.now.items c.loop-root.roots.items c.pop.new.self.items c.in-Some.root c.args.fresh.now
-    c.loop-root.fresh c.index-fresh-key.result
-    c.requires.fresh.1 c.requires.some c.loop-root.invariant.filling c.in-Some.ensures.items)
+    (filling_has _ _ _ _ _ _ _ c.index-fresh-key.result c.requires.fresh.1 c.requires.some c.loop-root.invariant.filling
+    c.in-Some.ensures.items)
 
 pub put_root-requires-clause-room : goal.put_root-requires-clause-room
 put_root-requires-clause-room g c =
     let count : c.len-key.result ≡ length c.pop.new.self.items = c.len-key.ensures ∙ c.pop.new.self.ok.0 in
     rw count
-    (filling_empty c.requires.fresh.0 c.args.roots.now.items c.loop-root.roots.items c.pop.new.self.items c.in-Some.root c.args.fresh.now
-    c.loop-root.fresh c.index-fresh-key.result
-    c.requires.fresh.1 c.requires.some c.loop-root.invariant.filling c.in-Some.ensures.items)
+    (filling_empty _ _ _ _ _ _ _ c.index-fresh-key.result c.requires.fresh.1 c.requires.some c.loop-root.invariant.filling
+    c.in-Some.ensures.items)
 
 pub loop-root-preserved : goal.loop-root-preserved
 loop-root-preserved g c =
@@ -32,10 +30,8 @@ loop-root-preserved g c =
     record {
       filling =
           rw count
-          (filling_more c.requires.fresh.0 c.args.roots.now.items c.loop-root.roots.items c.pop.new.self.items c.in-Some.root
-          c.args.fresh.now c.loop-root.fresh c.index-fresh-key.result
-          c.requires.fresh.1 c.requires.some c.loop-root.invariant.filling c.in-Some.ensures.items
-          c.put_root.new.self (rw count at c.put_root.ensures));
+          (filling_more _ _ _ _ _ _ _ c.index-fresh-key.result c.requires.fresh.1 c.requires.some c.loop-root.invariant.filling
+          c.in-Some.ensures.items c.put_root.new.self (rw count at c.put_root.ensures));
       room = omega (arith, c.in-Some.ensures.capacity, c.loop-root.invariant.room);
     }
 

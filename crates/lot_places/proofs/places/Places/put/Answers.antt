@@ -19,11 +19,9 @@ unreachable-requires-in_default-before g c =
 
 pub invariant_of-self : goal.invariant_of-self
 invariant_of-self g c =
-    slot_kept _ _ _ _ _ c.self.view_is c.self.invariant.0 c.in-Some.ensures
-    c.replace-before.new.dest c.self.invariant.1
+    slot_kept _ _ _ _ _ c.self.view_is c.self.invariant.0 c.in-Some.ensures c.replace-before.new.dest c.self.invariant.1
 
 pub returns : goal.returns
 returns g c =
     rw c.replace-before.ensures.after
-    (slot_stored _ _ _ _ _ c.self.view_is c.self.invariant.0 c.in-Some.ensures
-    (Some c.args.root))
+    (slot_stored _ _ _ _ _ c.self.view_is c.self.invariant.0 c.in-Some.ensures (Some c.args.root))

@@ -22,8 +22,7 @@ unwrap-requires g c =
 
 pub invariant_of-self : goal.invariant_of-self
 invariant_of-self g c =
-    slot_kept _ _ _ _ _ c.self.view_is c.self.invariant.0 c.in-Some.ensures
-    c.take.new.self c.self.invariant.1
+    slot_kept _ _ _ _ _ c.self.view_is c.self.invariant.0 c.in-Some.ensures c.take.new.self c.self.invariant.1
 
 pub returns-clause-root : goal.returns-clause-root
 returns-clause-root g c =
@@ -35,5 +34,4 @@ returns-clause-root g c =
 pub returns-clause-left : goal.returns-clause-left
 returns-clause-left g c =
     rw c.take.ensures.after
-    (slot_stored _ _ _ _ _ c.self.view_is c.self.invariant.0 c.in-Some.ensures
-    None)
+    (slot_stored _ _ _ _ _ c.self.view_is c.self.invariant.0 c.in-Some.ensures None)
