@@ -12,7 +12,7 @@ use Rattle.lot_core.specs.Model.{put, opening_with}
 use Rattle.lot_core.specs.Steps.{SaysMore, passed_line}
 use Rattle.lot_core.specs.Sound.{IsOnce, IsSoundLockPart}
 use Rattle.lot_core.specs.Parts.{LockPart, lock_part, MayTry, LockAllowed, lock_part_after, LockStep, served}
-use Rattle.lot_core.proofs.Put.{by_bit, by_line, at_all, put_other}
+use Rattle.lot_core.proofs.Put.{by_bit, by_line, at_all, put_other, turned}
 use Rattle.lot_core.proofs.Members.{in_tail, in_head, in_none, two_from, once_tail, head_left, once_push, once_none}
 use Rattle.lot_core.proofs.Owners.{IsOwned, owners, owned, owned_none, owned_got, owned_left, owned_handed}
 
@@ -24,7 +24,7 @@ pub record IsKeptLock (n l : ℕ) (held parked : Bool) (line : List ℕ) (has : 
   pub once : IsOnce line
   pub named : (t : ℕ) → Contains line t → (t < n) × (wants t ≡ Some l)
 
-module _ (n l : ℕ) (held parked : Bool) (line : List ℕ) (has : ℕ → Bool) (wants : ℕ → Option ℕ)
+module _ {n l : ℕ} {held parked : Bool} {line : List ℕ} {has : ℕ → Bool} {wants : ℕ → Option ℕ}
     (h : IsKeptLock n l held parked line has wants) where
   -- t gets it unheld
   gets : (t : ℕ) → held ≡ false → IsKeptLock n l true parked line (put has t true) wants
@@ -144,15 +144,13 @@ module _ (n : ℕ) (a : LockPart) (h : IsKeptLockPart n a) (t l : ℕ) where
   got_at unheld =
       at_all (λ i b. IsKeptLock n i (if b then true else a.locks.held i) (a.locks.parked i) (a.locks.line i)
       (if b then put (a.locks.has l) t true else a.locks.has i) a.wants) l
-      (gets n l (a.locks.held l) (a.locks.parked l) (a.locks.line l) (a.locks.has l) a.wants (h l) t unheld)
+      (gets (h l) t unheld)
       (λ i ne. h i)
 
   try_part : IsKeptLockPart n (lock_part_after a (Try t l))
   try_part =
       let s = a.locks in
-      by_bit (λ b. IsKeptLockPart n (record a {
-        locks = if b then s else record s { held = put s.held l true; has = put s.has l (put (s.has l) t true) };
-      })) (s.held l)
+      by_bit (λ b. IsKeptLockPart n (record a { locks = if b then s else turned s t l true })) (s.held l)
       (λ held. h) (λ unheld. got_at unheld)
 
   -- who may try to get l is in no line, and wants no other lock
@@ -177,19 +175,18 @@ module _ (n : ℕ) (a : LockPart) (h : IsKeptLockPart n a) (t l : ℕ) where
     take_part =
         let s = a.locks in
         by_bit (λ b. IsKeptLockPart n (record {
-          locks = if b then s else record s { held = put s.held l true; has = put s.has l (put (s.has l) t true) };
+          locks = if b then s else turned s t l true;
           wants = put a.wants t (if b then Some l else None);
         })) (s.held l)
-        (λ held i. turns n i (s.held i) (s.parked i) (s.line i) (s.has i) a.wants (h i) t (Some l) (outside i)
+        (λ held i. turns (h i) t (Some l) (outside i)
         (λ clear is. let unheld : s.held l ≡ false = subst (λ j. s.held j ≡ false) (aims_at i is) clear in absurd (cc)))
-        (λ unheld i. turns n i (put s.held l true i) (s.parked i) (s.line i) (put s.has l (put (s.has l) t true) i) a.wants
-        (got_at unheld i) t None (outside i) (λ clear is. still_held i clear (aims_at i is)))
+        (λ unheld i. turns (got_at unheld i) t None (outside i) (λ clear is. still_held i clear (aims_at i is)))
 
   mark_part : IsKeptLockPart n (lock_part_after a (Mark t l))
   mark_part =
       let s = a.locks in
       at_all (λ i b. IsKeptLock n i (s.held i) (if b then true else s.parked i) (s.line i) (s.has i) a.wants) l
-      (marks n l (s.held l) (s.parked l) (s.line l) (s.has l) a.wants (h l)) (λ i ne. h i)
+      (marks (h l)) (λ i ne. h i)
 
   park_part : t < n → a.wants t ≡ Some l → (Contains (a.locks.line l) t → ⊥) → IsKeptLockPart n (lock_part_after a (Park t l))
   park_part near is out =
@@ -199,7 +196,7 @@ module _ (n : ℕ) (a : LockPart) (h : IsKeptLockPart n a) (t l : ℕ) where
       (λ both.
       let parts = and_parts (s.held l) (s.parked l) both in
       at_all (λ i b. IsKeptLock n i (s.held i) (s.parked i) (if b then s.line l ++ t ∷ [] else s.line i) (s.has i) a.wants) l
-      (queues n l (s.held l) (s.parked l) (s.line l) (s.has l) a.wants (h l) t parts.0 parts.1 near is out)
+      (queues (h l) t parts.0 parts.1 near is out)
       (λ i ne. h i))
       (λ not_both. h)
 
@@ -212,21 +209,18 @@ module _ (n : ℕ) (a : LockPart) (h : IsKeptLockPart n a) (t l : ℕ) where
         let s = a.locks in
         at_all (λ i b. IsKeptLock n i (if b then false else s.held i) (if b then bit else s.parked i) (s.line i)
         (if b then put (s.has l) t false else s.has i) a.wants) l
-        (leaves n l (s.held l) (s.parked l) (s.line l) (s.has l) a.wants (h l) t bit has_it empty)
+        (leaves (h l) t bit has_it empty)
         (λ i ne. h i)
 
     free_part : IsKeptLockPart n (lock_part_after a (Free t l))
     free_part =
         let s = a.locks in
-        by_bit (λ b. IsKeptLockPart n (record a {
-          locks = if b then s else record s { held = put s.held l false; has = put s.has l (put (s.has l) t false) };
-        })) (s.parked l)
+        by_bit (λ b. IsKeptLockPart n (record a { locks = if b then s else turned s t l false })) (s.parked l)
         (λ parked. h)
         (λ unparked.
         at_all (λ i b. IsKeptLock n i (if b then false else s.held i) (s.parked i) (s.line i)
         (if b then put (s.has l) t false else s.has i) a.wants) l
-        (leaves n l (s.held l) (s.parked l) (s.line l) (s.has l) a.wants (h l) t (s.parked l) has_it
-        (unmarked_none n l (s.held l) (s.parked l) (s.line l) (s.has l) a.wants (h l) unparked))
+        (leaves (h l) t (s.parked l) has_it (unmarked_none (h l) unparked))
         (λ i ne. h i))
 
     -- t passes l on to the first of its line, which it had before
@@ -242,11 +236,10 @@ module _ (n : ℕ) (a : LockPart) (h : IsKeptLockPart n a) (t l : ℕ) where
           let s = a.locks in
           at_all (λ i b. IsKeptLock n i (s.held i) (s.parked i) (if b then rest else s.line i)
           (if b then put (put (s.has l) t false) u true else s.has i) (put a.wants u None)) l
-          (turns n l (s.held l) (s.parked l) rest (put (put (s.has l) t false) u true) a.wants
-          (hands n l (s.held l) (s.parked l) (s.line l) (s.has l) a.wants (h l) t u rest has_it is) u None
+          (turns (hands (h l) t u rest has_it is) u None
           (head_left u rest (subst IsOnce is (h l).once))
           (λ clear e. let held : s.held l ≡ true = (h l).owned.1.1 (t, has_it) in absurd (cc)))
-          (λ i ne. turns n i (s.held i) (s.parked i) (s.line i) (s.has i) a.wants (h i) u None
+          (λ i ne. turns (h i) u None
           (λ inside. let wants : a.wants u ≡ Some i = ((h i).named u inside).1 in let here = wants_it in ne (let same : i ≡ l = cc in same))
           (λ clear wants. let here = wants_it in ne (let same : i ≡ l = cc in same)))
 
@@ -262,7 +255,7 @@ module _ (n : ℕ) (a : LockPart) (h : IsKeptLockPart n a) (t l : ℕ) where
           let s = a.locks in
           at_all (λ i b. IsKeptLock n i (if b then false else s.held i) (if b then more else s.parked i) (if b then rest else s.line i)
           (if b then put (s.has l) t false else s.has i) a.wants) l
-          (passes n l (s.held l) (s.parked l) (s.line l) (s.has l) a.wants (h l) t u rest has_it is more says)
+          (passes (h l) t u rest has_it is more says)
           (λ i ne. h i)
 
     pass_part : (fair more : Bool) → (fair ≡ false → SaysMore (a.locks.line l) more) →

@@ -66,156 +66,142 @@ pub record IsKeptSemaphore (n opening k left : ℕ) (parked : Bool) (line : List
   pub once : IsOnce line
   pub named : (t : ℕ) → Contains line t → (t < n) × (seeks t ≡ Some k)
 
--- the same with another thing for t to seek, where neither is k
-pub beside : (n opening k left : ℕ) (parked : Bool) (line : List ℕ) (out : ℕ → ℕ) (seeks : ℕ → Option ℕ) (t : ℕ) (o : Option ℕ) →
-    IsKeptSemaphore n opening k left parked line out seeks → seeks t ≢ Some k → o ≢ Some k →
-    IsKeptSemaphore n opening k left parked line out (put seeks t o)
-beside n opening k left parked line out seeks t o h before now = record {
-  conserved = h.conserved;
-  marked = h.marked;
-  sought = λ some.
-      let same : count_below n (λ u. is_seeking (seeks u) k line u) ≡ count_below n (λ u. is_seeking (put seeks t o u) k line u) =
-      total_same n _ _ (λ u near. ap bit (at_all (λ u b. is_seeking (seeks u) k line u ≡ is_seeking (if b then o else seeks u) k line u) t
-      (seeks_another (seeks t) k line t before ∙ sym (seeks_another o k line t now)) (λ u ne. refl) u)) in
-      omega (arith, h.sought some, same);
-  once = h.once;
-  named = λ u inside.
-      let is : (u < n) × (seeks u ≡ Some k) = h.named u inside in
-      (is.0, put_other seeks t o u (λ e. before (ap seeks (sym e) ∙ is.1)) ∙ is.1);
-}
-
--- t, which may be seeking a permit of k, is not in k's line
-pub taker_outside : (n opening k left : ℕ) (parked : Bool) (line : List ℕ) (out : ℕ → ℕ) (seeks : ℕ → Option ℕ) (t : ℕ) →
-    IsKeptSemaphore n opening k left parked line out seeks → (seeks t ≡ None) ⊎ ((seeks t ≡ Some k) × (Contains line t → ⊥)) →
-    Contains line t → ⊥
-taker_outside n opening k left parked line out seeks t h (inl none) inside = let is = (h.named t inside).1 in absurd (cc)
-taker_outside n opening k left parked line out seeks t h (inr x) inside = x.1 inside
-
--- t takes one of the permits that are left
-pub takes : (n opening k left : ℕ) (parked : Bool) (line : List ℕ) (out : ℕ → ℕ) (seeks : ℕ → Option ℕ) (t : ℕ) →
-    IsKeptSemaphore n opening k left parked line out seeks → t < n → left ≢ 0 →
-    (seeks t ≡ None) ⊎ ((seeks t ≡ Some k) × (Contains line t → ⊥)) →
-    IsKeptSemaphore n opening k (left - 1) parked line (put out t (out t + 1)) (put seeks t None)
-takes n opening k left parked line out seeks t h near some may = record {
-  conserved =
-      let one : total n out + put out t (out t + 1) t ≡ total n (put out t (out t + 1)) + out t =
-      total_but n out (put out t (out t + 1)) t near (λ u ne. sym (put_other out t (out t + 1) u ne)) in
-      omega (arith, h.conserved, one, put_same out t (out t + 1));
-  marked = h.marked;
-  sought = λ queued.
-      let f : ℕ → ℕ = λ u. bit (is_seeking (seeks u) k line u) in
-      let g : ℕ → ℕ = λ u. bit (is_seeking (put seeks t None u) k line u) in
-      let one : total n f + g t ≡ total n g + f t =
-      total_but n f g t near (λ u ne. ap (λ o. bit (is_seeking o k line u)) (sym (put_other seeks t None u ne))) in
-      let gone : g t ≡ 0 = ap (λ o. bit (is_seeking o k line t)) (put_same seeks t None) in
-      let before : left ≤ total n f = h.sought queued in
-      omega (arith, bit_le (is_seeking (seeks t) k line t));
-  once = h.once;
-  named = λ u inside.
-      let is : (u < n) × (seeks u ≡ Some k) = h.named u inside in (
-        is.0,
-        put_other seeks t None u (λ e. taker_outside n opening k left parked line out seeks t h may (subst (Contains line) e inside))
-            ∙ is.1,
-      );
-}
-
--- t finds none left
-pub finds_none : (n opening k left : ℕ) (parked : Bool) (line : List ℕ) (out : ℕ → ℕ) (seeks : ℕ → Option ℕ) (t : ℕ) →
-    IsKeptSemaphore n opening k left parked line out seeks → left ≡ 0 →
-    IsKeptSemaphore n opening k left parked line out (put seeks t (Some k))
-finds_none n opening k left parked line out seeks t h none = record {
-  conserved = h.conserved;
-  marked = h.marked;
-  sought = λ queued. omega arith;
-  once = h.once;
-  named = λ u inside. (
-    (h.named u inside).0,
-    at_all (λ u b. seeks u ≡ Some k → (if b then Some k else seeks u) ≡ Some k) t (λ is. refl) (λ u ne is. is) u (h.named u inside).1,
-  );
-}
-
--- the parked bit alone is set
-pub marks : (n opening k left : ℕ) (parked : Bool) (line : List ℕ) (out : ℕ → ℕ) (seeks : ℕ → Option ℕ) →
-    IsKeptSemaphore n opening k left parked line out seeks → IsKeptSemaphore n opening k left true line out seeks
-marks n opening k left parked line out seeks h =
-    record { conserved = h.conserved; marked = λ t inside. refl; sought = h.sought; once = h.once; named = h.named }
-
--- t goes last in the line
-pub queues : (n opening k left : ℕ) (parked : Bool) (line : List ℕ) (out : ℕ → ℕ) (seeks : ℕ → Option ℕ) (t : ℕ) →
-    IsKeptSemaphore n opening k left parked line out seeks → t < n → left ≡ 0 → parked ≡ true →
-    seeks t ≡ Some k → (Contains line t → ⊥) → IsKeptSemaphore n opening k left parked (line ++ t ∷ []) out seeks
-queues n opening k left parked line out seeks t h near none bit_set is outside = record {
-  conserved = h.conserved;
-  marked = λ u inside. bit_set;
-  sought = λ queued. omega arith;
-  once = once_push line t h.once outside;
-  named = λ u inside. elim (Contains-push_cases line t u inside) [
-    | inl before ↦ h.named u before
-    | inr same ↦ subst (λ w. (w < n) × (seeks w ≡ Some k)) same (near, is)
-  ];
-}
-
--- nobody is queued on an unmarked semaphore
-pub unmarked_none : (n opening k left : ℕ) (parked : Bool) (line : List ℕ) (out : ℕ → ℕ) (seeks : ℕ → Option ℕ) →
-    IsKeptSemaphore n opening k left parked line out seeks → parked ≡ false → line ≡ []
-unmarked_none n opening k left parked line out seeks h clear = by_line (λ xs. xs ≡ []) line (λ e. refl) (λ u rest e.
-    let set : parked ≡ true = h.marked u (subst (λ xs. Contains xs u) (sym e) (in_head u rest)) in
-    absurd (cc))
-
-pub conserved_given : (n opening left : ℕ) (out : ℕ → ℕ) (t : ℕ) → left + total n out ≡ opening → t < n → 1 ≤ out t →
+conserved_given : (n opening left : ℕ) (out : ℕ → ℕ) (t : ℕ) → left + total n out ≡ opening → t < n → 1 ≤ out t →
     (left + 1) + total n (put out t (out t - 1)) ≡ opening
 conserved_given n opening left out t conserved near some =
     let one : total n out + put out t (out t - 1) t ≡ total n (put out t (out t - 1)) + out t =
     total_but n out (put out t (out t - 1)) t near (λ u ne. sym (put_other out t (out t - 1) u ne)) in
     omega (arith, put_same out t (out t - 1))
 
--- t gives a permit back, and nobody is queued
-pub gives : (n opening k left : ℕ) (parked : Bool) (line : List ℕ) (out : ℕ → ℕ) (seeks : ℕ → Option ℕ) (t : ℕ) →
-    IsKeptSemaphore n opening k left parked line out seeks → t < n → 1 ≤ out t → line ≡ [] →
-    IsKeptSemaphore n opening k (left + 1) parked line (put out t (out t - 1)) seeks
-gives n opening k left parked line out seeks t h near some empty = record {
-  conserved = conserved_given n opening left out t h.conserved near some;
-  marked = h.marked;
-  sought = λ queued. absurd (queued empty);
-  once = h.once;
-  named = h.named;
-}
+module _ {n opening k left : ℕ} {parked : Bool} {line : List ℕ} {out : ℕ → ℕ} {seeks : ℕ → Option ℕ}
+    (h : IsKeptSemaphore n opening k left parked line out seeks) where
+  -- the same with another thing for t to seek, where neither is k
+  beside : (t : ℕ) (o : Option ℕ) → seeks t ≢ Some k → o ≢ Some k → IsKeptSemaphore n opening k left parked line out (put seeks t o)
+  beside t o before now = record {
+    conserved = h.conserved;
+    marked = h.marked;
+    sought = λ some.
+        let same : count_below n (λ u. is_seeking (seeks u) k line u) ≡ count_below n (λ u. is_seeking (put seeks t o u) k line u) =
+        total_same n _ _ (λ u near. ap bit (at_all (λ u b. is_seeking (seeks u) k line u ≡ is_seeking (if b then o else seeks u) k line u) t
+        (seeks_another (seeks t) k line t before ∙ sym (seeks_another o k line t now)) (λ u ne. refl) u)) in
+        omega (arith, h.sought some, same);
+    once = h.once;
+    named = λ u inside.
+        let is : (u < n) × (seeks u ≡ Some k) = h.named u inside in
+        (is.0, put_other seeks t o u (λ e. before (ap seeks (sym e) ∙ is.1)) ∙ is.1);
+  }
 
--- t gives a permit back, and the first of the line leaves it
-pub passes : (n opening k left : ℕ) (parked : Bool) (line : List ℕ) (out : ℕ → ℕ) (seeks : ℕ → Option ℕ) (t : ℕ) (more : Bool)
-    (u : ℕ) (rest : List ℕ) →
-    IsKeptSemaphore n opening k left parked line out seeks → t < n → 1 ≤ out t → line ≡ u ∷ rest → SaysMore (u ∷ rest) more →
-    IsKeptSemaphore n opening k (left + 1) more rest (put out t (out t - 1)) seeks
-passes n opening k left parked line out seeks t more u rest h near some is says =
-    let h' : IsKeptSemaphore n opening k left parked (u ∷ rest) out seeks =
-    subst (λ xs. IsKeptSemaphore n opening k left parked xs out seeks) is h in
-    let first : (u < n) × (seeks u ≡ Some k) = h'.named u (in_head u rest) in
-    record {
-      conserved = conserved_given n opening left out t h.conserved near some;
-      marked = λ w inside. says (two_from u rest w inside);
-      sought = λ queued.
-          let f : ℕ → ℕ = λ w. bit (is_seeking (seeks w) k (u ∷ rest) w) in
-          let g : ℕ → ℕ = λ w. bit (is_seeking (seeks w) k rest w) in
-          let one : total n f + g u ≡ total n g + f u =
-          total_but n f g u first.0 (λ w ne. ap bit (seeks_behind (seeks w) k u rest w ne)) in
-          let was : f u ≡ 0 = ap bit (seeks_inside (seeks u) k (u ∷ rest) u first.1 (in_head u rest)) in
-          let is_now : g u ≡ 1 = ap bit (seeks_outside (seeks u) k rest u first.1 (head_left u rest h'.once)) in
-          let before : left ≤ total n f = h'.sought (λ e. absurd (cc)) in
-          omega arith;
-      once = once_tail u rest h'.once;
-      named = λ w inside. h'.named w (in_tail u rest w inside);
-    }
+  -- t, which may be seeking a permit of k, is not in k's line
+  taker_outside : (t : ℕ) → (seeks t ≡ None) ⊎ ((seeks t ≡ Some k) × (Contains line t → ⊥)) → Contains line t → ⊥
+  taker_outside t (inl none) inside = let is = (h.named t inside).1 in absurd (cc)
+  taker_outside t (inr x) inside = x.1 inside
 
--- the parked bit is cleared where nobody is queued
-pub clears : (n opening k left : ℕ) (parked : Bool) (line : List ℕ) (out : ℕ → ℕ) (seeks : ℕ → Option ℕ) →
-    IsKeptSemaphore n opening k left parked line out seeks → line ≡ [] → IsKeptSemaphore n opening k left false line out seeks
-clears n opening k left parked line out seeks h empty = record {
-  conserved = h.conserved;
-  marked = λ t inside. absurd (in_none t (subst (λ xs. Contains xs t) empty inside));
-  sought = h.sought;
-  once = h.once;
-  named = h.named;
-}
+  -- t takes one of the permits that are left
+  takes : (t : ℕ) → t < n → left ≢ 0 → (seeks t ≡ None) ⊎ ((seeks t ≡ Some k) × (Contains line t → ⊥)) →
+      IsKeptSemaphore n opening k (left - 1) parked line (put out t (out t + 1)) (put seeks t None)
+  takes t near some may = record {
+    conserved =
+        let one : total n out + put out t (out t + 1) t ≡ total n (put out t (out t + 1)) + out t =
+        total_but n out (put out t (out t + 1)) t near (λ u ne. sym (put_other out t (out t + 1) u ne)) in
+        omega (arith, h.conserved, one, put_same out t (out t + 1));
+    marked = h.marked;
+    sought = λ queued.
+        let f : ℕ → ℕ = λ u. bit (is_seeking (seeks u) k line u) in
+        let g : ℕ → ℕ = λ u. bit (is_seeking (put seeks t None u) k line u) in
+        let one : total n f + g t ≡ total n g + f t =
+        total_but n f g t near (λ u ne. ap (λ o. bit (is_seeking o k line u)) (sym (put_other seeks t None u ne))) in
+        let gone : g t ≡ 0 = ap (λ o. bit (is_seeking o k line t)) (put_same seeks t None) in
+        let before : left ≤ total n f = h.sought queued in
+        omega (arith, bit_le (is_seeking (seeks t) k line t));
+    once = h.once;
+    named = λ u inside.
+        let is : (u < n) × (seeks u ≡ Some k) = h.named u inside in (
+          is.0,
+          put_other seeks t None u (λ e. taker_outside t may (subst (Contains line) e inside)) ∙ is.1,
+        );
+  }
+
+  -- t finds none left
+  finds_none : (t : ℕ) → left ≡ 0 → IsKeptSemaphore n opening k left parked line out (put seeks t (Some k))
+  finds_none t none = record {
+    conserved = h.conserved;
+    marked = h.marked;
+    sought = λ queued. omega arith;
+    once = h.once;
+    named = λ u inside. (
+      (h.named u inside).0,
+      at_all (λ u b. seeks u ≡ Some k → (if b then Some k else seeks u) ≡ Some k) t (λ is. refl) (λ u ne is. is) u (h.named u inside).1,
+    );
+  }
+
+  -- the parked bit alone is set
+  marks : IsKeptSemaphore n opening k left true line out seeks
+  marks = record { conserved = h.conserved; marked = λ t inside. refl; sought = h.sought; once = h.once; named = h.named }
+
+  -- t goes last in the line
+  queues : (t : ℕ) → t < n → left ≡ 0 → parked ≡ true →
+      seeks t ≡ Some k → (Contains line t → ⊥) → IsKeptSemaphore n opening k left parked (line ++ t ∷ []) out seeks
+  queues t near none bit_set is outside = record {
+    conserved = h.conserved;
+    marked = λ u inside. bit_set;
+    sought = λ queued. omega arith;
+    once = once_push line t h.once outside;
+    named = λ u inside. elim (Contains-push_cases line t u inside) [
+      | inl before ↦ h.named u before
+      | inr same ↦ subst (λ w. (w < n) × (seeks w ≡ Some k)) same (near, is)
+    ];
+  }
+
+  -- nobody is queued on an unmarked semaphore
+  unmarked_none : parked ≡ false → line ≡ []
+  unmarked_none clear = by_line (λ xs. xs ≡ []) line (λ e. refl) (λ u rest e.
+      let set : parked ≡ true = h.marked u (subst (λ xs. Contains xs u) (sym e) (in_head u rest)) in
+      absurd (cc))
+
+  -- t gives a permit back, and nobody is queued
+  gives : (t : ℕ) → t < n → 1 ≤ out t → line ≡ [] →
+      IsKeptSemaphore n opening k (left + 1) parked line (put out t (out t - 1)) seeks
+  gives t near some empty = record {
+    conserved = conserved_given n opening left out t h.conserved near some;
+    marked = h.marked;
+    sought = λ queued. absurd (queued empty);
+    once = h.once;
+    named = h.named;
+  }
+
+  -- t gives a permit back, and the first of the line leaves it
+  passes : (t : ℕ) (more : Bool) (u : ℕ) (rest : List ℕ) →
+      t < n → 1 ≤ out t → line ≡ u ∷ rest → SaysMore (u ∷ rest) more →
+      IsKeptSemaphore n opening k (left + 1) more rest (put out t (out t - 1)) seeks
+  passes t more u rest near some is says =
+      let h' : IsKeptSemaphore n opening k left parked (u ∷ rest) out seeks =
+      subst (λ xs. IsKeptSemaphore n opening k left parked xs out seeks) is h in
+      let first : (u < n) × (seeks u ≡ Some k) = h'.named u (in_head u rest) in
+      record {
+        conserved = conserved_given n opening left out t h.conserved near some;
+        marked = λ w inside. says (two_from u rest w inside);
+        sought = λ queued.
+            let f : ℕ → ℕ = λ w. bit (is_seeking (seeks w) k (u ∷ rest) w) in
+            let g : ℕ → ℕ = λ w. bit (is_seeking (seeks w) k rest w) in
+            let one : total n f + g u ≡ total n g + f u =
+            total_but n f g u first.0 (λ w ne. ap bit (seeks_behind (seeks w) k u rest w ne)) in
+            let was : f u ≡ 0 = ap bit (seeks_inside (seeks u) k (u ∷ rest) u first.1 (in_head u rest)) in
+            let is_now : g u ≡ 1 = ap bit (seeks_outside (seeks u) k rest u first.1 (head_left u rest h'.once)) in
+            let before : left ≤ total n f = h'.sought (λ e. absurd (cc)) in
+            omega arith;
+        once = once_tail u rest h'.once;
+        named = λ w inside. h'.named w (in_tail u rest w inside);
+      }
+
+  -- the parked bit is cleared where nobody is queued
+  clears : line ≡ [] → IsKeptSemaphore n opening k left false line out seeks
+  clears empty = record {
+    conserved = h.conserved;
+    marked = λ t inside. absurd (in_none t (subst (λ xs. Contains xs t) empty inside));
+    sought = h.sought;
+    once = h.once;
+    named = h.named;
+  }
 
 -- all semaphores of a part
 abbrev pub IsKeptPart : ℕ → (ℕ → ℕ) → SemaphorePart → Type 0
@@ -255,14 +241,12 @@ take_part n permits a t k h near may =
       seeks = put a.seeks t (if b then Some k else None);
     })) (none_left z k)
     (λ none. at_all (λ i b. IsKeptSemaphore n (permits i) i (z.left i) (z.parked i) (z.line i) (z.out i) (put a.seeks t (Some k))) k
-    (finds_none n (permits k) k (z.left k) (z.parked k) (z.line k) (z.out k) a.seeks t (h k) (eqb-true (z.left k) 0 none))
-    (λ i ne. beside n (permits i) i (z.left i) (z.parked i) (z.line i) (z.out i) a.seeks t (Some k) (h i) (taker_beside a t k i ne may)
-    (λ e. let same : i ≡ k = cc in ne same)))
+    (finds_none (h k) t (eqb-true (z.left k) 0 none))
+    (λ i ne. beside (h i) t (Some k) (taker_beside a t k i ne may) (λ e. let same : i ≡ k = cc in ne same)))
     (λ some. at_all (λ i b. IsKeptSemaphore n (permits i) i (if b then z.left k - 1 else z.left i) (z.parked i) (z.line i)
     (if b then put (z.out k) t (z.out k t + 1) else z.out i) (put a.seeks t None)) k
-    (takes n (permits k) k (z.left k) (z.parked k) (z.line k) (z.out k) a.seeks t (h k) near (eqb-false (z.left k) 0 some) may)
-    (λ i ne. beside n (permits i) i (z.left i) (z.parked i) (z.line i) (z.out i) a.seeks t None (h i)
-    (taker_beside a t k i ne may) (λ e. absurd (cc))))
+    (takes (h k) t near (eqb-false (z.left k) 0 some) may)
+    (λ i ne. beside (h i) t None (taker_beside a t k i ne may) (λ e. absurd (cc))))
 
 pub park_part : (n : ℕ) (permits : ℕ → ℕ) (a : SemaphorePart) (t k : ℕ) → IsKeptPart n permits a → t < n → PartSeeks a t k →
     IsKeptPart n permits (semaphore_part_after a (SemPark t k))
@@ -273,8 +257,7 @@ park_part n permits a t k h near seeks =
     (λ both.
     let parts = and_parts (none_left z k) (z.parked k) both in
     at_all (λ i b. IsKeptSemaphore n (permits i) i (z.left i) (z.parked i) (if b then z.line k ++ t ∷ [] else z.line i) (z.out i) a.seeks) k
-    (queues n (permits k) k (z.left k) (z.parked k) (z.line k) (z.out k) a.seeks t (h k) near
-    (eqb-true (z.left k) 0 parts.0) parts.1 seeks.0 seeks.1)
+    (queues (h k) t near (eqb-true (z.left k) 0 parts.0) parts.1 seeks.0 seeks.1)
     (λ i ne. h i))
     (λ not_both. h)
 
@@ -286,8 +269,7 @@ free_part n permits a t k h near some =
     (λ set. h)
     (λ clear. at_all (λ i b. IsKeptSemaphore n (permits i) i (if b then z.left k + 1 else z.left i) (z.parked i) (z.line i)
     (if b then put (z.out k) t (z.out k t - 1) else z.out i) a.seeks) k
-    (gives n (permits k) k (z.left k) (z.parked k) (z.line k) (z.out k) a.seeks t (h k) near some
-    (unmarked_none n (permits k) k (z.left k) (z.parked k) (z.line k) (z.out k) a.seeks (h k) clear))
+    (gives (h k) t near some (unmarked_none (h k) clear))
     (λ i ne. h i))
 
 pub pass_part : (n : ℕ) (permits : ℕ → ℕ) (a : SemaphorePart) (t k : ℕ) (more : Bool) → IsKeptPart n permits a
@@ -298,12 +280,11 @@ pass_part n permits a t k more h near some says =
     by_line (λ xs. IsKeptPart n permits (record a { sems = seeker_woken (permit_given z t k) k more xs })) (z.line k)
     (λ none. at_all (λ i b. IsKeptSemaphore n (permits i) i (if b then z.left k + 1 else z.left i) (z.parked i) (z.line i)
     (if b then put (z.out k) t (z.out k t - 1) else z.out i) a.seeks) k
-    (gives n (permits k) k (z.left k) (z.parked k) (z.line k) (z.out k) a.seeks t (h k) near some none)
+    (gives (h k) t near some none)
     (λ i ne. h i))
     (λ u rest is. at_all (λ i b. IsKeptSemaphore n (permits i) i (if b then z.left k + 1 else z.left i) (if b then more else z.parked i)
     (if b then rest else z.line i) (if b then put (z.out k) t (z.out k t - 1) else z.out i) a.seeks) k
-    (passes n (permits k) k (z.left k) (z.parked k) (z.line k) (z.out k) a.seeks t more u rest (h k) near some is
-    (subst (λ xs. SaysMore xs more) is says))
+    (passes (h k) t more u rest near some is (subst (λ xs. SaysMore xs more) is says))
     (λ i ne. h i))
 
 -- the parked bit of k alone becomes this
@@ -320,14 +301,12 @@ pub part_kept : (threads first_sem sems : ℕ) (permits : ℕ → ℕ) (a : Sema
     SemaphoreAllowed threads first_sem sems a e → IsKeptPart threads permits (semaphore_part_after a e)
 part_kept threads first_sem sems permits a (SemTake t k) h ok = take_part threads permits a t k h ok.0 ok.2
 part_kept threads first_sem sems permits a (SemMark t k) h ok =
-    bit_part threads permits a k true h
-    (marks threads (permits k) k (a.sems.left k) (a.sems.parked k) (a.sems.line k) (a.sems.out k) a.seeks (h k))
+    bit_part threads permits a k true h (marks (h k))
 part_kept threads first_sem sems permits a (SemPark t k) h ok = park_part threads permits a t k h ok.0 ok.2
 part_kept threads first_sem sems permits a (SemFree t k) h ok = free_part threads permits a t k h ok.0 ok.3
 part_kept threads first_sem sems permits a (SemPass t k more) h ok = pass_part threads permits a t k more h ok.0 ok.3 ok.4
 part_kept threads first_sem sems permits a (SemClear t k) h ok =
-    bit_part threads permits a k false h
-    (clears threads (permits k) k (a.sems.left k) (a.sems.parked k) (a.sems.line k) (a.sems.out k) a.seeks (h k) ok.3)
+    bit_part threads permits a k false h (clears (h k) ok.3)
 part_kept threads first_sem sems permits a _ h ok = absurd ok
 
 -- a step leads from a sound part to a sound part

@@ -4,7 +4,7 @@ use Rattle.std.specs.Prelude.{◌==◌, if◌then◌else◌}
 use Rattle.std.proofs.lemmas.Bool.{eqb-true, eqb-false}
 use mathlib.Core.Path.{fun_ext}
 pub use Rattle.lot_events.proofs.Cases.{by_bit}
-use Rattle.lot_core.specs.Model.{put}
+use Rattle.lot_core.specs.Model.{Locks, put}
 use Rattle.lot_core.specs.Rows.{told}
 
 -- what holds of a line where it is empty, and where it has a first, holds of it
@@ -33,6 +33,10 @@ put_again {X} f k =
 -- what was put last stays
 pub put_put : {X : Type 0} (f : ℕ → X) (k : ℕ) (v w : X) → put (put f k v) k w ≡ put f k w
 put_put {X} f k v w = fun_ext (at_all (λ i b. (if b then w else (if b then v else f i)) ≡ (if b then w else f i)) k refl (λ i ne. refl))
+
+-- l is held now, or not, and t has it, or has it not
+abbrev pub turned : Locks → ℕ → ℕ → Bool → Locks
+turned s t l held = record s { held = put s.held l held; has = put s.has l (put (s.has l) t held) }
 
 -- what f tells of each, where one is replaced
 pub told_put : {X Y : Type 0} (f : X → Y) (g : ℕ → X) (k : ℕ) (v : X) → told f (put g k v) ≡ put (told f g) k (f v)

@@ -13,7 +13,7 @@ use Rattle.lot_core.specs.Model.{StateView, Locks, Semaphores, put}
 use Rattle.lot_core.specs.Steps.{MayLetGo, Allowed, Run, after, after_all, passed_line, handed, let_go, released}
 use Rattle.lot_core.specs.Steps.{none_left, permit_given}
 use Rattle.lot_core.specs.Steps.{seeker_woken, with_sem_line}
-use Rattle.lot_core.proofs.Put.{by_bit, by_line, at_all, put_same, put_other}
+use Rattle.lot_core.proofs.Put.{by_bit, by_line, at_all, put_same, put_other, turned}
 use Rattle.lot_order.specs.Order.{Keys, held_by, HasKey, HasBeside, InOrder, key_count, IsOrdered, KeepsOrder, OrderlyRun}
 use Rattle.lot_order.proofs.Circles.{ordered_at}
 
@@ -84,7 +84,7 @@ calm_stayed above s has t ordered others calm =
 
 -- one thread's part of one lock changes: the others have what they had
 pub lock_others : (s : StateView) (l t : ℕ) (b : Bool) →
-    OthersWithin s (rights (record s.locks { has = put s.locks.has l (put (s.locks.has l) t b) }) s.sems) t
+    OthersWithin s (rights (turned s.locks t l b) s.sems) t
 lock_others s l t b v ne = record {
   locks = λ j. at_all (λ i e. (if e then put (s.locks.has l) t b else s.locks.has i) v ≡ true → s.locks.has i v ≡ true) l
       (λ has. sym (put_other (s.locks.has l) t b v ne) ∙ has) (λ i ne has. has) j;
@@ -94,25 +94,14 @@ lock_others s l t b v ne = record {
 pub try_ordered : (above : ℕ → ℕ → Type 0) (s : StateView) (t l : ℕ) → IsOrdered above s → s.point t ≡ Calm
     → IsOrdered above (after s (Try t l))
 try_ordered above s t l ordered calm =
-    by_bit (λ b. AreOrdered above s
-    (rights (if b then s.locks else record s.locks {
-      held = put s.locks.held l true;
-      has = put s.locks.has l (put
-          (s.locks.has l) t true);
-    }) s.sems)
-    s.point) (s.locks.held l)
+    by_bit (λ b. AreOrdered above s (rights (if b then s.locks else turned s.locks t l true) s.sems) s.point) (s.locks.held l)
     (λ held. ordered)
     (λ free. calm_stayed above s _ t ordered (lock_others s l t true) calm)
 
 pub take_ordered : (above : ℕ → ℕ → Type 0) (s : StateView) (t l : ℕ) → IsOrdered above s → l < s.lock_count → KeepsOrder above s (Take t l)
     → IsOrdered above (after s (Take t l))
 take_ordered above s t l ordered lock keeps =
-    by_bit (λ b. AreOrdered above s
-    (rights (if b then s.locks else record s.locks {
-      held = put s.locks.held l true;
-      has = put s.locks.has l (put
-          (s.locks.has l) t true);
-    }) s.sems)
+    by_bit (λ b. AreOrdered above s (rights (if b then s.locks else turned s.locks t l true) s.sems)
     (put s.point t (if b then Wants l else Calm))) (s.locks.held l)
     (λ held. moved above s (held_by s) t (Wants l) ordered (λ v ne. within_itself (held_by s v)) (omega (arith, lock), keeps held))
     (λ free. moved above s _ t Calm ordered (lock_others s l t true) tt)
@@ -150,22 +139,17 @@ let_go_own above s l t has ordered (inr (c, bed)) lost same =
 
 -- t lets l go to nobody
 pub freed_ordered : (above : ℕ → ℕ → Type 0) (s : StateView) (l t : ℕ) → IsOrdered above s → MayLetGo s t l
-    → AreOrdered above s (rights (record s.locks { has = put s.locks.has l (put (s.locks.has l) t false) }) s.sems) (let_go s.point t)
+    → AreOrdered above s (rights (turned s.locks t l false) s.sems) (let_go s.point t)
 freed_ordered above s l t ordered may =
     moved above s _ t (released (s.point t)) ordered (lock_others s l t false)
-    (let_go_own above s l t (put s.locks.has l (put (s.locks.has l) t false)) ordered may
+    (let_go_own above s l t (turned s.locks t l false).has ordered may
     (ap (λ f. f t) (put_same s.locks.has l (put (s.locks.has l) t false)) ∙ put_same (s.locks.has l) t false)
     (λ j ne. ap (λ f. f t) (put_other s.locks.has l (put (s.locks.has l) t false) j ne)))
 
 pub free_ordered : (above : ℕ → ℕ → Type 0) (s : StateView) (t l : ℕ) → IsOrdered above s → MayLetGo s t l
     → IsOrdered above (after s (Free t l))
 free_ordered above s t l ordered may =
-    by_bit (λ b. AreOrdered above s
-    (rights (if b then s.locks else record s.locks {
-      held = put s.locks.held l false;
-      has = put s.locks.has l (put
-          (s.locks.has l) t false);
-    }) s.sems)
+    by_bit (λ b. AreOrdered above s (rights (if b then s.locks else turned s.locks t l false) s.sems)
     (if b then s.point else let_go s.point t)) (s.locks.parked l)
     (λ parked. ordered)
     (λ unparked. freed_ordered above s l t ordered may)
@@ -179,7 +163,7 @@ handed_ordered above s t l u ordered may =
     (rights (record s.locks { has = put s.locks.has l (put (put (s.locks.has l) t false) u true) }) s.sems v)
     (if b then Calm else let_go s.point t v)) u tt
     (λ v ne. fewer above (key_count s) _
-    (rights (record s.locks { has = put s.locks.has l (put (s.locks.has l) t false) }) s.sems v) (let_go s.point t v)
+    (rights (turned s.locks t l false) s.sems v) (let_go s.point t v)
     (record {
       locks = λ j. at_all (λ i e. (if e then put (put (s.locks.has l) t false) u true else s.locks.has i) v ≡ true
           → (if e then put (s.locks.has l) t false else s.locks.has i) v ≡ true) l
