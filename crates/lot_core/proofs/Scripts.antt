@@ -183,18 +183,16 @@ cut_kept text n l c numbers lines permits behind events rest is reads all front 
     none_left [] parts spells = parts ∙ append-nil events
     none_left (e ∷ more) parts (first, spells, (behind', each, same)) = absurd (none e first behind' spells same)
 
+-- with a permit or an event memory is wanted for it
+cut_wants : {text : List ℕ} {n l c : ℕ} {numbers lines : List ℕ} → (is : IsCut text n l c numbers lines) → 0 < length is.permits + length is.events
+    → WantsMemory text
+cut_wants {n = n} {l} {c} is some =
+    record { threads = n; locks = l; conds = c; permits = is.permits; events = is.events; spells = is.script; some = some }
+
 -- a semaphore's permits were read, and not kept
 pub cut_lacks_permits : (text : List ℕ) (n l c : ℕ) (numbers lines : List ℕ) (p : ℕ) (rest : List ℕ) → IsCut text n l c numbers lines →
     field_at numbers ≡ Some (p, rest) → WantsMemory text
-cut_lacks_permits text n l c numbers lines p rest is reads = record {
-  threads = n;
-  locks = l;
-  conds = c;
-  permits = is.permits;
-  events = is.events;
-  spells = is.script;
-  some = let one = some_number is.permits is.reads in omega arith;
-}
+cut_lacks_permits text n l c numbers lines p rest is reads = cut_wants is (let one = some_number is.permits is.reads in omega arith)
   where
     some_number : (ps : List ℕ) → ReadsNumbers numbers ps is.behind → 0 < length ps
     some_number [] same = let found = sym reads ∙ ap field_at same ∙ is.all in absurd (cc)
@@ -203,15 +201,8 @@ cut_lacks_permits text n l c numbers lines p rest is reads = record {
 -- an event was read, and not kept
 pub cut_lacks_events : (text : List ℕ) (n l c : ℕ) (numbers lines : List ℕ) (e : Event) (rest : List ℕ) → IsCut text n l c numbers lines →
     BeginsWith lines e rest → WantsMemory text
-cut_lacks_events text n l c numbers lines e rest is (first, spells, parts) = record {
-  threads = n;
-  locks = l;
-  conds = c;
-  permits = is.permits;
-  events = is.events;
-  spells = is.script;
-  some = let one = some_event is.events is.each in omega arith;
-}
+cut_lacks_events text n l c numbers lines e rest is (first, spells, parts) =
+    cut_wants is (let one = some_event is.events is.each in omega arith)
   where
     some_event : (events : List Event) → SpellsAll lines events → 0 < length events
     some_event [] none = absurd (line_not_nil first e rest spells (sym parts ∙ none))

@@ -5,14 +5,12 @@ use Rattle.lot_core.proofs.Openings.{numbers_push, number_shorter}
 use Rattle.lot_witness.proofs.witness.numbers.Goals as goal
 
 pub overflow_cast-number : goal.overflow_cast-number
-overflow_cast-number c =
-    omega (arith, (field_takes c.loop-number.rest.now c.in-Some.number c.in-Some.behind.now (sym c.in-Some.ensures)).0)
+overflow_cast-number c = omega (arith, (field_takes _ _ _ (sym c.in-Some.ensures)).0)
 
 pub loop-number-smaller : goal.loop-number-smaller
-loop-number-smaller c = number_shorter c.loop-number.rest.now c.in-Some.number c.in-Some.behind.now (sym c.in-Some.ensures)
+loop-number-smaller c = number_shorter _ _ _ (sym c.in-Some.ensures)
 
 pub loop-number-preserved : goal.loop-number-preserved
 loop-number-preserved c =
     subst (λ ns. ReadsNumbers c.args.text.now ns c.in-Some.behind.now) (sym (c.in_ok-push.ensures {u = tt}).items)
-    (numbers_push c.args.text.now c.loop-number.numbers.items c.loop-number.rest.now c.in-Some.number c.in-Some.behind.now
-    c.loop-number.invariant (sym c.in-Some.ensures))
+    (numbers_push _ _ _ _ _ c.loop-number.invariant (sym c.in-Some.ensures))

@@ -1,28 +1,15 @@
-use Rattle.std.proofs.Common.{◌≡◌, arith, refl}
-use Rattle.lot_events.specs.declared.events.Point.TheVariants.{Seeks}
-use Rattle.lot_core.specs.State.{state_of}
+use Rattle.std.proofs.Common.{arith, refl}
 use Rattle.lot_core.proofs.Places.{place_more, all_places, of_place}
 use Rattle.lot_core.proofs.state.State.do_all_seek.Goals as goal
 
 pub loop-place-preserved : goal.loop-place-preserved
-loop-place-preserved c =
-    let w = state_of c.args.self.now in
-    place_more (λ t. w.point t ≡ Seeks c.args.sem) (w.sems.line c.args.sem) c.loop-place.place c.at.result
-    c.loop-place.invariant c.at.ensures
-    (c.if-not-seeks.ensures.0 refl)
+loop-place-preserved c = place_more _ _ _ _ c.loop-place.invariant c.at.ensures (c.if-not-seeks.ensures.0 refl)
 
 pub returns : goal.returns
-returns c =
-    let w = state_of c.args.self.now in (
-      (λ yes. all_places (λ t. w.point t ≡ Seeks c.args.sem) (w.sems.line c.args.sem) c.loop-place.place
-          (omega (arith, c.len-place-end.ensures, c.loop-place-test.false)) c.loop-place.invariant),
-      (λ all. refl),
-    )
+returns c = (
+  (λ yes. all_places _ _ _ (omega (arith, c.len-place-end.ensures, c.loop-place-test.false)) c.loop-place.invariant),
+  (λ all. refl),
+)
 
 pub returns-then-not-seeks : goal.returns-then-not-seeks
-returns-then-not-seeks c =
-    let w = state_of c.args.self.now in (
-      (λ no. absurd (cc)),
-      (λ all. c.if-not-seeks.ensures.1
-          (of_place (λ t. w.point t ≡ Seeks c.args.sem) (w.sems.line c.args.sem) c.loop-place.place c.at.result c.at.ensures all)),
-    )
+returns-then-not-seeks c = ((λ no. absurd (cc)), (λ all. c.if-not-seeks.ensures.1 (of_place _ _ _ _ c.at.ensures all)))
