@@ -49,20 +49,12 @@ sought_blind = record { calm = refl; wants = λ l. refl; bed = λ c l. refl; res
 
 -- a lock that is let go
 pub blind_released : (f : Point → Option ℕ) → IsBlind f → (p : Point) → f (released p) ≡ f p
-blind_released f blind Calm = refl
-blind_released f blind (Wants l) = refl
 blind_released f blind (Bed c l) = blind.rest c l ∙ sym (blind.bed c l)
-blind_released f blind (Rest c l) = refl
-blind_released f blind (Sweeps c) = refl
-blind_released f blind (Seeks k) = refl
+blind_released f blind _ = refl
 
 pub wanted_released : (p : Point) → wanted (released p) ≡ wanted p
-wanted_released Calm = refl
-wanted_released (Wants l) = refl
 wanted_released (Bed c l) = refl
-wanted_released (Rest c l) = refl
-wanted_released (Sweeps c) = refl
-wanted_released (Seeks k) = refl
+wanted_released _ = refl
 
 pub told_released : (f : Point → Option ℕ) → ((p : Point) → f (released p) ≡ f p) → (s : StateView) (t : ℕ)
     → told f (let_go s.point t) ≡ told f s.point
@@ -122,73 +114,46 @@ wants_served s t (u ∷ rest) =
     told_put wanted (let_go s.point t) u Calm ∙ ap (λ (w : ℕ → Option ℕ). put w u None) (told_released wanted wanted_released s t)
 
 pub lock_part_follows : (s : StateView) (e : Event) → Allowed s e → lock_part (after s e) ≡ lock_part_after (lock_part s) e
-lock_part_follows s (Try t l) ok = refl
 lock_part_follows s (Take t l) ok = lock_part_by s _ _ _
     (told_put wanted s.point t (if s.locks.held l then Wants l else Calm)
     ∙ ap (put (told wanted s.point) t)
     (by_bit (λ b. wanted (if b then Wants l else Calm) ≡ (if b then Some l else None)) (s.locks.held l) (λ e. refl) (λ e. refl)))
-lock_part_follows s (Mark t l) ok = refl
-lock_part_follows s (Park t l) ok = refl
 lock_part_follows s (Free t l) ok = lock_part_by s _ _ _ (free_untold wanted wanted_released s t l)
 lock_part_follows s (Pass t l true more) ok = lock_part_by s _ _ _ (wants_served s t (s.locks.line l))
 lock_part_follows s (Pass t l false more) ok = lock_part_by s _ _ _ (told_released wanted wanted_released s t)
 lock_part_follows s (Enlist t c l) ok = lock_part_by s _ _ _ (told_same wanted s.point t (Bed c l) (sym (ap wanted ok.3)))
-lock_part_follows s (Look t c) ok = refl
-lock_part_follows s (Call t c n more) ok = refl
 lock_part_follows s (Lower t c) ok = lock_part_by s _ _ _ (told_same wanted s.point t (Sweeps c) (sym (ap wanted ok.2)))
 lock_part_follows s (Sweep t c) ok = lock_part_by s _ _ _ (told_same wanted s.point t Calm (sym (ap wanted ok.2)))
 lock_part_follows s (SemTake t k) ok = lock_part_by s _ _ _ (sem_take_untold wanted refl (λ k. refl) s t k ok.2)
-lock_part_follows s (SemMark t k) ok = refl
-lock_part_follows s (SemPark t k) ok = refl
-lock_part_follows s (SemFree t k) ok = refl
-lock_part_follows s (SemPass t k more) ok = refl
-lock_part_follows s (SemClear t k) ok = refl
+lock_part_follows s _ ok = refl
 
 pub cond_part_follows : (s : StateView) (e : Event) → SleepersWant s → Allowed s e → cond_part (after s e) ≡ cond_part_after (cond_part s) e
-cond_part_follows s (Try t l) h ok = refl
 cond_part_follows s (Take t l) h ok = cond_part_by s _ _ _ (take_untold swept_by swept_blind s t l ok.2)
-cond_part_follows s (Mark t l) h ok = refl
-cond_part_follows s (Park t l) h ok = refl
 cond_part_follows s (Free t l) h ok = cond_part_by s _ _ _ (free_untold swept_by (blind_released swept_by swept_blind) s t l)
 cond_part_follows s (Pass t l true more) h ok = cond_part_by s _ _ _ (handed_untold swept_by swept_blind s t l (s.locks.line l) h refl)
 cond_part_follows s (Pass t l false more) h ok = cond_part_by s _ _ _ (told_released swept_by (blind_released swept_by swept_blind) s t)
 cond_part_follows s (Enlist t c l) h ok = cond_part_by s _ _ _ (told_same swept_by s.point t (Bed c l) (sym (ap swept_by ok.3)))
-cond_part_follows s (Look t c) h ok = refl
-cond_part_follows s (Call t c n more) h ok = refl
 cond_part_follows s (Lower t c) h ok = cond_part_by s _ _ _ (told_put swept_by s.point t (Sweeps c))
 cond_part_follows s (Sweep t c) h ok = cond_part_by s _ _ _ (told_put swept_by s.point t Calm)
 cond_part_follows s (SemTake t k) h ok = cond_part_by s _ _ _ (sem_take_untold swept_by refl (λ k. refl) s t k ok.2)
-cond_part_follows s (SemMark t k) h ok = refl
-cond_part_follows s (SemPark t k) h ok = refl
-cond_part_follows s (SemFree t k) h ok = refl
-cond_part_follows s (SemPass t k more) h ok = refl
-cond_part_follows s (SemClear t k) h ok = refl
+cond_part_follows s _ h ok = refl
 
 pub semaphore_part_follows : (s : StateView) (e : Event) → SleepersWant s → Allowed s e
     → semaphore_part (after s e) ≡ semaphore_part_after (semaphore_part s) e
-semaphore_part_follows s (Try t l) h ok = refl
 semaphore_part_follows s (Take t l) h ok = semaphore_part_by s _ _ _ (take_untold sought sought_blind s t l ok.2)
-semaphore_part_follows s (Mark t l) h ok = refl
-semaphore_part_follows s (Park t l) h ok = refl
 semaphore_part_follows s (Free t l) h ok = semaphore_part_by s _ _ _ (free_untold sought (blind_released sought sought_blind) s t l)
 semaphore_part_follows s (Pass t l true more) h ok =
     semaphore_part_by s _ _ _ (handed_untold sought sought_blind s t l (s.locks.line l) h refl)
 semaphore_part_follows s (Pass t l false more) h ok =
     semaphore_part_by s _ _ _ (told_released sought (blind_released sought sought_blind) s t)
 semaphore_part_follows s (Enlist t c l) h ok = semaphore_part_by s _ _ _ (told_same sought s.point t (Bed c l) (sym (ap sought ok.3)))
-semaphore_part_follows s (Look t c) h ok = refl
-semaphore_part_follows s (Call t c n more) h ok = refl
 semaphore_part_follows s (Lower t c) h ok = semaphore_part_by s _ _ _ (told_same sought s.point t (Sweeps c) (sym (ap sought ok.2)))
 semaphore_part_follows s (Sweep t c) h ok = semaphore_part_by s _ _ _ (told_same sought s.point t Calm (sym (ap sought ok.2)))
 semaphore_part_follows s (SemTake t k) h ok = semaphore_part_by s (permit_taken s.sems t k) _ _
     (told_put sought s.point t (if none_left s.sems k then Seeks k else Calm)
     ∙ ap (put (told sought s.point) t)
     (by_bit (λ b. sought (if b then Seeks k else Calm) ≡ (if b then Some k else None)) (none_left s.sems k) (λ e. refl) (λ e. refl)))
-semaphore_part_follows s (SemMark t k) h ok = refl
-semaphore_part_follows s (SemPark t k) h ok = refl
-semaphore_part_follows s (SemFree t k) h ok = refl
-semaphore_part_follows s (SemPass t k more) h ok = refl
-semaphore_part_follows s (SemClear t k) h ok = refl
+semaphore_part_follows s _ h ok = refl
 
 -- What is seen.
 
@@ -353,23 +318,17 @@ seeks_alone : (s : StateView) (t k : ℕ) → PartSeeks (semaphore_part s) t k �
 seeks_alone s t k x = (sought_is (s.point t) k x.0, x.1)
 
 asked : (s : StateView) (e : Event) → Allowed s e → AsksOfThread s e
-asked s (Try t l) ok = ok.2
 asked s (Take t l) ok = takes_asked s t l ok.2
 asked s (Mark t l) ok = stands_before s t l ok.2
 asked s (Park t l) ok = tt
 asked s (Free t l) ok = ok.3
 asked s (Pass t l fair more) ok = ok.4
 asked s (Enlist t c l) ok = (ok.3, ok.4)
-asked s (Look t c) ok = ok.2
-asked s (Call t c n more) ok = ok.2
-asked s (Lower t c) ok = ok.2
 asked s (Sweep t c) ok = tt
 asked s (SemTake t k) ok = sem_takes_asked s t k ok.2
 asked s (SemMark t k) ok = tt
 asked s (SemPark t k) ok = tt
-asked s (SemFree t k) ok = ok.2
-asked s (SemPass t k more) ok = ok.2
-asked s (SemClear t k) ok = ok.2
+asked s _ ok = ok.2
 
 lock_allows : (s : StateView) (e : Event) → LockAllowed s.threads s.lock_count (lock_part s) e → AsksOfThread s e → Allowed s e
 lock_allows s (Try t l) ok asks = (ok.0, ok.1, asks)

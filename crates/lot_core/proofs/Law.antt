@@ -177,22 +177,7 @@ keys_kept s (SemClear t k) h ok = sems_kept s (with_sem_parked s.sems k false) h
 -- no event changes how many threads and permits there are
 pub same_numbers : (s : StateView) (e : Event) → ((after s e).threads ≡ s.threads) × ((after s e).permits ≡ s.permits)
 same_numbers s (Try t l) = (refl, refl)
-same_numbers s (Take t l) = (refl, refl)
-same_numbers s (Mark t l) = (refl, refl)
-same_numbers s (Park t l) = (refl, refl)
-same_numbers s (Free t l) = (refl, refl)
-same_numbers s (Pass t l fair more) = (refl, refl)
-same_numbers s (Enlist t c l) = (refl, refl)
-same_numbers s (Look t c) = (refl, refl)
-same_numbers s (Call t c n more) = (refl, refl)
-same_numbers s (Lower t c) = (refl, refl)
-same_numbers s (Sweep t c) = (refl, refl)
-same_numbers s (SemTake t k) = (refl, refl)
-same_numbers s (SemMark t k) = (refl, refl)
-same_numbers s (SemPark t k) = (refl, refl)
-same_numbers s (SemFree t k) = (refl, refl)
-same_numbers s (SemPass t k more) = (refl, refl)
-same_numbers s (SemClear t k) = (refl, refl)
+same_numbers s _ = (refl, refl)
 
 -- a sound state, in its two halves
 keys_sound : (s : StateView) → IsSound s → IsKept s

@@ -49,23 +49,7 @@ first_takes (x ∷ ks) text k rest is =
 pub first_again : (k : Kind) (rest : List ℕ) → first_of kinds (kind_word k ++ rest) ≡ Some (k, rest)
 unfolding first_of rest_behind
 first_again Try rest = refl
-first_again Take rest = refl
-first_again Mark rest = refl
-first_again Park rest = refl
-first_again Free rest = refl
-first_again Pass rest = refl
-first_again Enlist rest = refl
-first_again Look rest = refl
-first_again Call rest = refl
-first_again CallSome rest = refl
-first_again Lower rest = refl
-first_again Sweep rest = refl
-first_again SemTake rest = refl
-first_again SemMark rest = refl
-first_again SemPark rest = refl
-first_again SemFree rest = refl
-first_again SemPass rest = refl
-first_again SemClear rest = refl
+first_again _ rest = refl
 
 -- what an event of this kind is, so far as its further numbers were read
 pub record IsLast (k : Kind) (t x : ℕ) (text : List ℕ) (found : Event × List ℕ) : Type 0 where
@@ -105,41 +89,27 @@ flag_behind k t x text middle rest n flag e found spells small starts read is =
 
 pub last_takes : (k : Kind) (t x : ℕ) (text : List ℕ) (found : Event × List ℕ) → last_at k t x text ≡ Some found → IsLast k t x text found
 unfolding last_at
-last_takes Try t x text found is = last_of Try t x text (event.Try t x) [] text found (λ first is. is) tt refl is
-last_takes Take t x text found is = last_of Take t x text (event.Take t x) [] text found (λ first is. is) tt refl is
-last_takes Mark t x text found is = last_of Mark t x text (event.Mark t x) [] text found (λ first is. is) tt refl is
-last_takes Park t x text found is = last_of Park t x text (event.Park t x) [] text found (λ first is. is) tt refl is
-last_takes Free t x text found is = last_of Free t x text (event.Free t x) [] text found (λ first is. is) tt refl is
 last_takes Pass t x text found is =
     let fair = bind_some _ (flag_at text) found is in
     let more = bind_some _ (flag_at fair.0.1) found fair.2 in
-    flag_behind Pass t x text fair.0.1 more.0.1 (bit fair.0.0) more.0.0 (event.Pass t x fair.0.0 more.0.0) found (λ first is. is)
-    (bit_small fair.0.0) (flag_takes text fair.0.0 fair.0.1 fair.1) more.1 more.2
+    flag_behind Pass t x text _ _ _ _ _ found (λ first is. is) (bit_small fair.0.0) (flag_takes text _ _ fair.1) more.1 more.2
 last_takes Enlist t x text found is =
     let lock = bind_some _ (field_at text) found is in
     let taken = field_takes text lock.0.0 lock.0.1 lock.1 in
-    last_of Enlist t x text (event.Enlist t x lock.0.0) (lock.0.0 ∷ []) lock.0.1 found (λ first is. is) (taken.0, tt)
+    last_of Enlist t x text _ (lock.0.0 ∷ []) _ found (λ first is. is) (taken.0, tt)
     (taken.1 ∙ sym (one_part (field lock.0.0) lock.0.1)) lock.2
-last_takes Look t x text found is = last_of Look t x text (event.Look t x) [] text found (λ first is. is) tt refl is
 last_takes Call t x text found is =
     let more = bind_some _ (flag_at text) found is in
-    flag_last Call t x text more.0.1 more.0.0 (event.Call t x 1 more.0.0) found (λ first is. inr (refl, is)) more.1 more.2
+    flag_last Call t x text _ _ _ found (λ first is. inr (refl, is)) more.1 more.2
 last_takes CallSome t x text found is =
     let count = bind_some _ (field_at text) found is in
     let more = bind_some _ (flag_at count.0.1) found count.2 in
     let taken = field_takes text count.0.0 count.0.1 count.1 in
-    flag_behind CallSome t x text count.0.1 more.0.1 count.0.0 more.0.0 (event.Call t x count.0.0 more.0.0) found (λ first is. inl is)
-    taken.0 taken.1 more.1 more.2
-last_takes Lower t x text found is = last_of Lower t x text (event.Lower t x) [] text found (λ first is. is) tt refl is
-last_takes Sweep t x text found is = last_of Sweep t x text (event.Sweep t x) [] text found (λ first is. is) tt refl is
-last_takes SemTake t x text found is = last_of SemTake t x text (event.SemTake t x) [] text found (λ first is. is) tt refl is
-last_takes SemMark t x text found is = last_of SemMark t x text (event.SemMark t x) [] text found (λ first is. is) tt refl is
-last_takes SemPark t x text found is = last_of SemPark t x text (event.SemPark t x) [] text found (λ first is. is) tt refl is
-last_takes SemFree t x text found is = last_of SemFree t x text (event.SemFree t x) [] text found (λ first is. is) tt refl is
+    flag_behind CallSome t x text _ _ _ _ _ found (λ first is. inl is) taken.0 taken.1 more.1 more.2
 last_takes SemPass t x text found is =
     let more = bind_some _ (flag_at text) found is in
-    flag_last SemPass t x text more.0.1 more.0.0 (event.SemPass t x more.0.0) found (λ first is. is) more.1 more.2
-last_takes SemClear t x text found is = last_of SemClear t x text (event.SemClear t x) [] text found (λ first is. is) tt refl is
+    flag_last SemPass t x text _ _ _ found (λ first is. is) more.1 more.2
+last_takes k t x text found is = last_of k t x text _ [] text found (λ first is. is) tt refl is
 
 -- a line of a word, two numbers and more, taken apart
 pub regroup : (w a b m rest : List ℕ) → (w ++ ((a ++ (b ++ m)) ++ 10 ∷ [])) ++ rest ≡ w ++ (a ++ (b ++ (m ++ (10 ∷ rest))))
