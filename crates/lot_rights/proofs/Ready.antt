@@ -22,6 +22,14 @@ module _ {S P R Key : Type 0} (meaning : Key → Meaning S P R) (apart : (key : 
   pub word_in_table : (i : ℕ) → i < now.table.words → i < inside.table.words
   word_in_table i near = subst (λ (x : WordsShown Key). i < x.table.words) (sym is) near
 
+  -- what is allowed with a right as it is shown is so with the right itself, which is of this table
+  ready_one : {A : Type 0} (table : A → TableId) (Allowed : Key → A → Type 0) (mine shown : A) → mine ≡ shown
+      → table shown ≡ now.table → Allowed now.key shown → (table mine ≡ inside.table) × Allowed inside.key mine
+  ready_one {A} table Allowed mine shown e here allows = (
+    ap table e ∙ (here ∙ table_is),
+    subst (λ (x : WordsShown Key). Allowed x.key mine) (sym is) (subst (λ (x : A). Allowed now.key x) (sym e) allows),
+  )
+
   pub ready_pass : (mine shown : PassShown P) → mine ≡ shown → (table : TableId) → table ≡ shown.table
       → (id : ℕ) (me : Me S (List (Right P R))) → me ≡ (Pass (right_of_pass mine) ∷ [], [])
       → (i : ℕ) (f : ℕ → ℕ) (then : ℕ → PassShown P → Type 0)
@@ -29,14 +37,12 @@ module _ {S P R Key : Type 0} (meaning : Key → Meaning S P R) (apart : (key : 
       → (mine.table ≡ inside.table) × (i < inside.table.words)
       × Allows (Ruled (meaning inside.key)) inside.table.slots id me i f (ToldPass table (right_of_pass mine) then)
   ready_pass mine shown e table named id me one i f then here near allows =
-      let allowed : AllowsPass (meaning inside.key) i f mine then =
-      subst (λ (x : WordsShown Key). AllowsPass (meaning x.key) i f mine then) (sym is)
-      (subst (λ (x : PassShown P). AllowsPass (meaning now.key) i f x then) (sym e) allows) in (
-        ap (λ (x : PassShown P). x.table) e ∙ (here ∙ table_is),
+      let own = ready_one (λ x. x.table) (λ key x. AllowsPass (meaning key) i f x then) mine shown e here allows in (
+        own.0,
         word_in_table i near,
         subst (λ t. Allows (Ruled (meaning inside.key)) inside.table.slots id me i f (ToldPass t (right_of_pass mine) then))
             (ap (λ (x : PassShown P). x.table) e ∙ sym named)
-            (steps_pass (meaning inside.key) (apart inside.key) inside.table.slots id me mine i f then one allowed),
+            (steps_pass (meaning inside.key) (apart inside.key) inside.table.slots id me mine i f then one own.1),
       )
 
   -- the pass p and the root q at one seat; `nobody` and `nothing` stand for what no pass and no root knows
@@ -69,14 +75,12 @@ module _ {S P R Key : Type 0} (meaning : Key → Meaning S P R) (apart : (key : 
       → (mine.table ≡ inside.table) × (i < inside.table.words)
       × Allows (Ruled (meaning inside.key)) inside.table.slots id me i f (ToldRoot table (right_of_root mine) then)
   ready_root mine shown e table named id me one i f then here near allows =
-      let allowed : AllowsRoot (meaning inside.key) i f mine then =
-      subst (λ (x : WordsShown Key). AllowsRoot (meaning x.key) i f mine then) (sym is)
-      (subst (λ (x : RootShown R). AllowsRoot (meaning now.key) i f x then) (sym e) allows) in (
-        ap (λ (x : RootShown R). x.table) e ∙ (here ∙ table_is),
+      let own = ready_one (λ x. x.table) (λ key x. AllowsRoot (meaning key) i f x then) mine shown e here allows in (
+        own.0,
         word_in_table i near,
         subst (λ t. Allows (Ruled (meaning inside.key)) inside.table.slots id me i f (ToldRoot t (right_of_root mine) then))
             (ap (λ (x : RootShown R). x.table) e ∙ sym named)
-            (steps_root (meaning inside.key) (apart inside.key) inside.table.slots id me mine i f then one allowed),
+            (steps_root (meaning inside.key) (apart inside.key) inside.table.slots id me mine i f then one own.1),
       )
 
   -- the passes p and q at one seat
@@ -103,12 +107,10 @@ module _ {S P R Key : Type 0} (meaning : Key → Meaning S P R) (apart : (key : 
       → (mine.table ≡ inside.table) × (0 < inside.table.words)
       × Allows (Ruled (meaning inside.key)) inside.table.slots id me 0 (λ n. n) (λ _ me'. ToldFact fact me me')
   ready_fact mine shown e here some id me one fact tells =
-      let told : TellsOfRoot (meaning inside.key) mine fact =
-      subst (λ (x : WordsShown Key). TellsOfRoot (meaning x.key) mine fact) (sym is)
-      (subst (λ (x : RootShown R). TellsOfRoot (meaning now.key) x fact) (sym e) tells) in (
-        ap (λ (x : RootShown R). x.table) e ∙ (here ∙ table_is),
+      let own = ready_one (λ x. x.table) (λ key x. TellsOfRoot (meaning key) x fact) mine shown e here tells in (
+        own.0,
         some,
-        steps_fact (meaning inside.key) (apart inside.key) inside.table.slots id me mine 0 fact one told,
+        steps_fact (meaning inside.key) (apart inside.key) inside.table.slots id me mine 0 fact one own.1,
       )
 
 -- ---- a root after its step
@@ -177,12 +179,12 @@ module _ {S P R : Type 0} (nobody : P) (nothing : R) where
       ⊎_elim {C = letter_at u < words'} (λ old. omega (arith, near u old)) (λ new. omega (arith, mine))
       (names_few u (subst (λ (z : RootRight R). names z.own u) (second_is me p q e) h))
 
--- ---- two passes at one seat
-module _ {S P R : Type 0} where
-  pub one_shown : (me : Me S (List (Right P R))) (mine shown : PassShown P) → mine ≡ shown → me ≡ (Pass (right_of_pass mine) ∷ [], [])
-      → me ≡ (Pass (right_of_pass shown) ∷ [], [])
-  one_shown me mine shown is e = subst (λ (x : PassShown P). me ≡ (Pass (right_of_pass x) ∷ [], [])) is e
+-- ---- rights as they are shown, and two passes at one seat
+pub one_shown : {S A B : Type 0} (right : A → B) (me : Me S (List B)) (mine shown : A) → mine ≡ shown → me ≡ (right mine ∷ [], [])
+    → me ≡ (right shown ∷ [], [])
+one_shown {A = A} right me mine shown is e = subst (λ (x : A). me ≡ (right x ∷ [], [])) is e
 
+module _ {S P R : Type 0} where
   pub two_joined : (a b me : Me S (List (Right P R))) (p q : PassRight P) → a ≡ (Pass p ∷ [], []) → b ≡ (Pass q ∷ [], [])
       → me ≡ (a.0 ++ b.0, a.1) → me ≡ (Pass p ∷ Pass q ∷ [], [])
   two_joined a b me p q ea eb e = e ∙ (λ j. ((ea j).0 ++ (eb j).0, (ea j).1))

@@ -1,8 +1,8 @@
 -- The laws of the history, proved.
-use Rattle.std.proofs.Common.{ℕ, ◌+◌, List, [], ◌∷◌, Some, None, sym, subst, ◌∙◌, arith}
+use Rattle.std.proofs.Common.{ℕ, ◌+◌, List, [], ◌∷◌, None, sym, subst, ◌∙◌, arith}
 use Rattle.atomic_table.specs.Table.{State}
 use Rattle.lot_rights.specs.declared.views.Access.{Access}
-use Rattle.lot_rights.specs.declared.views.Access.TheVariants.{Makes, Posts, Collects, Finds, Counts}
+use Rattle.lot_rights.specs.declared.views.Access.TheVariants.{Makes, Collects}
 use Rattle.lot_rights.specs.declared.views.Entry.{Entry}
 use Rattle.lot_rights.specs.declared.views.Right.{Right}
 use Rattle.lot_rights.specs.History.{Telling, Run, with_event, events_in, ModelRun}
@@ -23,12 +23,8 @@ module _ {S P R : Type 0} (k : Meaning S P R) where
       step : (y : Access) (c : Telling k.Part) → Leads k a y c → ModelRun k.Step c.part (events_in log) b.part
           → ModelRun k.Step a.part (with_event y (events_in log)) b.part
       step (Makes e saw) c h run = (c.part, (h.0, run))
-      step (Posts d t token) c h run = subst (λ (z : Telling k.Part). ModelRun k.Step z.part (events_in log) b.part) h.1 run
       step (Collects t None) c h run = subst (λ (z : Telling k.Part). ModelRun k.Step z.part (events_in log) b.part) h.1 run
-      step (Collects t (Some token)) c h run = subst (λ (z : Telling k.Part). ModelRun k.Step z.part (events_in log) b.part) h.1 run
-      step (Finds t d x) c h run = subst (λ (z : Telling k.Part). ModelRun k.Step z.part (events_in log) b.part) h.1 run
-      step (Counts t d told handed waiting) c h run =
-          subst (λ (z : Telling k.Part). ModelRun k.Step z.part (events_in log) b.part) h.1 run
+      step _ c h run = subst (λ (z : Telling k.Part). ModelRun k.Step z.part (events_in log) b.part) h.1 run
 
   pub has_one_run : RuledHasOneRun k
   has_one_run s here = record {
@@ -48,11 +44,8 @@ module _ {S P R : Type 0} (k : Meaning S P R) where
   module _ (one : HasOneOutcome k) where
     leads_to_one : OneOutcome (Leads k)
     leads_to_one a b c (Makes e saw) x y = λ i. record { part = one a.part b.part c.part e saw x.0 y.0 i; letters = (x.1 ∙ sym y.1) i }
-    leads_to_one a b c (Posts d t token) x y = x.1 ∙ sym y.1
     leads_to_one a b c (Collects t None) x y = x.1 ∙ sym y.1
-    leads_to_one a b c (Collects t (Some token)) x y = x.1 ∙ sym y.1
-    leads_to_one a b c (Finds t d n) x y = x.1 ∙ sym y.1
-    leads_to_one a b c (Counts t d told handed waiting) x y = x.1 ∙ sym y.1
+    leads_to_one a b c _ x y = x.1 ∙ sym y.1
 
     one_outcome : OneOutcome (LeadsOn k)
     one_outcome a b c access x y = leads_to_one a b c access x.0 y.0

@@ -1,5 +1,8 @@
-use Rattle.std.proofs.Common.{◌≡◌, ◌+◌, ◌-◌, ◌^◌, ◌<◌, [], slice_get, sym, ap, subst, ◌∙◌, arith}
+use Rattle.std.proofs.Common.{◌≡◌, ℕ, ◌+◌, ◌-◌, ◌^◌, ◌<◌, List, [], ◌∷◌, slice_get, sym, ap, subst, ◌∙◌, arith}
+use Rattle.atomic_table.specs.Table.{Me}
 use Rattle.lot_rights.specs.Layout.{word_at}
+use Rattle.lot_rights.specs.Rule.{Meaning}
+use Rattle.lot_rights.specs.declared.views.Right.{Right}
 use Rattle.lot_rights.specs.declared.views.Right.TheVariants.{Root}
 use Rattle.lot_rights.specs.Shown.{root_at_table}
 use Rattle.lot_rights.specs.Start.{new_root, roots_from, root_at}
@@ -20,35 +23,29 @@ loop-i-init g c =
       each = λ j near. absurd (omega arith);
     }
 
+-- the next root is that of the i-th key
+next : {S P R : Type 0} (k : Meaning S P R) (first i keys : ℕ) (me : Me S (List (Right P R))) → i < keys
+    → me ≡ (roots_from k (first + i) (keys - i), [])
+    → me ≡ (Root (new_root k.fresh_root (first + i)) ∷ roots_from k (first + (i + 1)) (keys - (i + 1)), [])
+next k first i keys me near rest =
+    rest
+    ∙ ap (λ v. (v, []))
+    (next_from (λ d. Root (new_root k.fresh_root d)) (first + i) (first + (i + 1)) (keys - i) (keys - (i + 1)) (omega arith) (omega arith))
+
 pub split_seat-own-requires : goal.split_seat-own-requires
 split_seat-own-requires g c =
     let k = g.K.Kind.meaning c.args.shared.now.key in
-    let i = c.loop-i.i in
-    let is =
-    c.loop-i.invariant.rest ∙ ap (λ v. (v, []))
-    (next_from (λ d. Root (new_root k.fresh_root d)) (c.args.first + i) (c.args.first + (i + 1)) (c.args.keys - i)
-    (c.args.keys - (i + 1)) (omega arith) (omega arith)) in (
-      c.loop-i.invariant.table,
-      c.requires.table.1,
-      deals k c.loop-i.seat.id c.loop-i.seat.me.0 (Root (new_root k.fresh_root (c.args.first + i)))
-          (roots_from k (c.args.first + (i + 1)) (c.args.keys - (i + 1))) (ap (λ m. m.0) is),
-    )
+    let is = next k c.args.first c.loop-i.i c.args.keys _ c.loop-i-test.true c.loop-i.invariant.rest in
+    (c.loop-i.invariant.table, c.requires.table.1, deals k _ _ _ _ (ap (λ m. m.0) is))
 
 pub invariant_of-push_reserved : goal.invariant_of-push_reserved
 invariant_of-push_reserved g c =
     let k = g.K.Kind.meaning c.args.shared.now.key in
-    let i = c.loop-i.i in
-    let key = c.args.first + i in
-    let is =
-    c.loop-i.invariant.rest ∙ ap (λ v. (v, []))
-    (next_from (λ d. Root (new_root k.fresh_root d)) key (c.args.first + (i + 1)) (c.args.keys - i) (c.args.keys - (i + 1)) (omega arith)
-    (omega arith)) in
-    let own = c.split_seat-own.result.me in
-    let dealt =
-    dealt_out c.loop-i.seat.me (Root (new_root k.fresh_root key))
-    (roots_from k (c.args.first + (i + 1)) (c.args.keys - (i + 1))) is own c.split_seat-own.ensures.4 in
-    let seen = root_seen g.K.Kind.no_pass g.K.Kind.no_root own (new_root k.fresh_root key) dealt in (
-      one_root g.K.Kind.no_pass g.K.Kind.no_root own (new_root k.fresh_root key) dealt,
+    let key = c.args.first + c.loop-i.i in
+    let is = next k c.args.first c.loop-i.i c.args.keys _ c.loop-i-test.true c.loop-i.invariant.rest in
+    let dealt = dealt_out _ _ _ is _ c.split_seat-own.ensures.4 in
+    let seen = root_seen g.K.Kind.no_pass g.K.Kind.no_root _ _ dealt in (
+      one_root g.K.Kind.no_pass g.K.Kind.no_root _ _ dealt,
       (
         subst (λ q. g.A.Numbering.shown c.of.result q.key ≡ q.key) (sym seen) c.of.ensures,
         (
@@ -68,22 +65,12 @@ loop-i-preserved g c =
     let inv = c.loop-i.invariant in
     let k = g.K.Kind.meaning c.args.shared.now.key in
     let i = c.loop-i.i in
-    let key = c.args.first + i in
-    let r = Root (new_root k.fresh_root key) in
-    let rs = roots_from k (c.args.first + (i + 1)) (c.args.keys - (i + 1)) in
-    let is =
-    inv.rest
-    ∙ ap (λ v. (v, []))
-    (next_from (λ d. Root (new_root k.fresh_root d)) key (c.args.first + (i + 1)) (c.args.keys - i) (c.args.keys - (i + 1))
-    (omega arith) (omega arith)) in
-    let own = c.split_seat-own.result in
-    let seen =
-    root_seen g.K.Kind.no_pass g.K.Kind.no_root own.me (new_root k.fresh_root key)
-    (dealt_out c.loop-i.seat.me r rs is own.me c.split_seat-own.ensures.4) in
+    let is = next k c.args.first i c.args.keys _ c.loop-i-test.true inv.rest in
+    let seen = root_seen g.K.Kind.no_pass g.K.Kind.no_root _ _ (dealt_out _ _ _ is _ c.split_seat-own.ensures.4) in
     let table = c.split_seat-own.ensures.3 ∙ inv.table in
     record {
       table = c.split_seat-own.ensures.0 ∙ inv.table;
-      rest = left_over c.loop-i.seat.me r rs is c.split_seat-own.new.seat.me c.split_seat-own.ensures.2;
+      rest = left_over _ _ _ is _ c.split_seat-own.ensures.2;
       len = omega (arith, c.push_reserved.ensures.len, inv.len);
       room = omega (arith, c.push_reserved.ensures.capacity, inv.room);
       each = λ j near. ap (λ qs. slice_get qs j) c.push_reserved.ensures.items

@@ -5,15 +5,12 @@ use Rattle.lot_rights.proofs.words.WordsOf.fetch_and_both.Goals as goal
 pub fetch_and-found-requires : goal.fetch_and-found-requires
 fetch_and-found-requires g c =
     ready_both g.K.Kind.meaning g.K.Kind.no_letter_in_line _ _ c.self.view_is
-    g.K.Kind.no_pass g.K.Kind.no_root c.args.pass c.args.root (c.requires.table.1 ∙ sym c.requires.table.0)
-    g.N.TellsBoth.table c.requires.named _ c.joined-seat.ensures.table c.joined-seat.result.id c.joined-seat.result.me
-    c.joined-seat.ensures.rights
+    g.K.Kind.no_pass g.K.Kind.no_root _ _ (c.requires.table.1 ∙ sym c.requires.table.0) _ c.requires.named _
+    c.joined-seat.ensures.table _ _ c.joined-seat.ensures.rights
     c.args.word (λ n. bit_and n c.args.mask) g.N.TellsBoth.then c.requires.word c.requires.allows
 
 pub parted-pass-requires-clause-letters : goal.parted-pass-requires-clause-letters
 parted-pass-requires-clause-letters g c =
     let told = c.fetch_and-found.ensures.2 in
-    letters_after g.K.Kind.no_pass g.K.Kind.no_root g.K.Kind.names c.args.root c.args.pass.thread _ _
-    (ap (λ z. z.words) c.fetch_and-found.ensures.0) c.joined-seat.ensures.letters
-    c.joined-seat.ensures.near.0
-    c.fetch_and-found.new.seat.me told.0 told.1 told.4 (c.requires.names c.fetch_and-found.result _ _ told.5)
+    letters_after g.K.Kind.no_pass g.K.Kind.no_root g.K.Kind.names c.args.root _ _ _ (ap (λ z. z.words) c.fetch_and-found.ensures.0)
+    c.joined-seat.ensures.letters c.joined-seat.ensures.near.0 _ _ _ told.4 (c.requires.names c.fetch_and-found.result _ _ told.5)

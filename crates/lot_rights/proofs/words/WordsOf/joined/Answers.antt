@@ -10,6 +10,5 @@ join_seat-requires g c =
       ap (λ (x : RootShown _). x.table) c.root.view_is ∙ (c.requires.table.1 ∙ here),
       ap (λ m. m.1) c.root.inside.one,
       c.self.inside.some,
-      joins_rule (g.K.Kind.meaning c.self.inside.table.shared.key) c.pass.inside.seat.id c.pass.inside.seat.me.0 c.root.inside.seat.id
-          c.root.inside.seat.me.0,
+      joins_rule (g.K.Kind.meaning c.self.inside.table.shared.key) _ _ _ _,
     )

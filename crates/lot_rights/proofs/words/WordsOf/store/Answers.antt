@@ -4,6 +4,6 @@ use Rattle.lot_rights.proofs.words.WordsOf.store.Goals as goal
 pub store-requires : goal.store-requires
 store-requires g c =
     ready_pass g.K.Kind.meaning g.K.Kind.no_letter_in_line _ _ c.self.view_is
-    _ _ c.pass.view_is g.N.TellsPass.table c.requires.named c.pass.inside.seat.id c.pass.inside.seat.me c.pass.inside.one
+    _ _ c.pass.view_is _ c.requires.named _ _ c.pass.inside.one
     c.args.word (λ _. c.args.new)
     (λ _. g.N.TellsPass.then c.args.new) c.requires.table c.requires.word c.requires.allows

@@ -4,7 +4,7 @@ use Rattle.lot_rights.proofs.words.WordsOf.store_root.Goals as goal
 pub store-requires : goal.store-requires
 store-requires g c =
     ready_root g.K.Kind.meaning g.K.Kind.no_letter_in_line _ _ c.self.view_is
-    _ _ c.root.view_is g.N.TellsRoot.table c.requires.named c.root.inside.seat.id c.root.inside.seat.me c.root.inside.one
+    _ _ c.root.view_is _ c.requires.named _ _ c.root.inside.one
     c.args.word (λ _. c.args.new)
     (λ _. g.N.TellsRoot.then c.args.new) c.requires.table c.requires.word c.requires.allows
 
