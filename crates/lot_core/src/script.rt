@@ -90,9 +90,9 @@ fn first_bad(lines: &[u8]) -> Option<usize>
     }
 }
 
-// The numbers at the front. Only where there is one is memory wanted.
-fn numbers(alloc: Global, text: &[u8]) -> Result<Vec<u32>, AllocError>
-    ensures read { IfOk result (λ x. (rest : List ℕ) × ReadsNumbers text.now x.items rest × (field_at rest ≡ None)) }
+/// The numbers at the front, and what stands behind them. Only where there is one is memory wanted.
+pub fn numbers(alloc: Global, text: &[u8]) -> Result<(Vec<u32>, &[u8]), AllocError>
+    ensures read { IfOk result (λ x. ReadsNumbers text.now x.0.items x.1.now × (field_at x.1.now ≡ None)) }
     ensures some { IfErr result (λ e. (n : ℕ) × (rest : List ℕ) × (field_at text.now ≡ Some (n, rest))) }
 {
     let mut numbers = Vec::new(alloc);
@@ -101,7 +101,7 @@ fn numbers(alloc: Global, text: &[u8]) -> Result<Vec<u32>, AllocError>
         numbers.push(number as u32)?;
         rest = behind;
     }
-    Ok(numbers)
+    Ok((numbers, rest))
 }
 
 // The events of the lines at the front. Only where there is one is memory wanted.
@@ -139,7 +139,7 @@ pub fn parse_script(alloc: Global, text: &str) -> Result<Script, ScriptFault>
         return Err(ScriptFault::BadLine(number));
     }
     let permits = match numbers(alloc, behind) {
-        Ok(permits) => permits,
+        Ok((permits, _)) => permits,
         Err(_) => return Err(ScriptFault::NoMemory),
     };
     let events = match events(alloc, lines) {

@@ -1,13 +1,13 @@
 //! A witness as text: the first line of a script, and lines that end in what was seen.
-ghost use Rattle.std.specs.Prelude.{◌≡◌, ◌<◌, ◌+◌, ℕ, List, IfOk, IfErr, None};
-ghost use Rattle.lot_core.specs.Reading.{field_at, ReadsNumbers};
+ghost use Rattle.std.specs.Prelude.{IfOk, IfErr};
 ghost use Rattle.lot_witness.specs.Spelling.{Reads, AreAll, IsFaulty};
 
 use crate::reading::first_sighting;
+use lot_core::script::numbers;
 use lot_core::{MAX_LINES, ScriptFault};
-use lot_events::reading::{end, field, opening};
+use lot_events::reading::{end, opening};
 use lot_events::{Event, Seen};
-use std::alloc::{AllocError, Global};
+use std::alloc::Global;
 
 /// An event, and what its thread saw of it.
 #[derive(Clone, Copy, Debug, PartialEq, Eq)]
@@ -25,19 +25,6 @@ pub struct Witness {
     /// How many permits each semaphore is opened with.
     pub permits: Vec<u32>,
     pub sightings: Vec<Sighting>,
-}
-
-// The numbers at the front, and what stands behind them.
-fn numbers(alloc: Global, text: &[u8]) -> Result<(Vec<u32>, &[u8]), AllocError>
-    ensures { IfOk result (λ x. ReadsNumbers text.now x.0.items x.1.now × (field_at x.1.now ≡ None)) }
-{
-    let mut numbers = Vec::new(alloc);
-    let mut rest = text;
-    while let Some((number, behind)) = field(rest) {
-        numbers.push(number as u32)?;
-        rest = behind;
-    }
-    Ok((numbers, rest))
 }
 
 // What was seen, line by line from the second on.

@@ -37,9 +37,8 @@ returns-in-Err-events c =
 
 pub returns : goal.returns
 returns c =
-    let kept = c.in-Ok.ensures.read in
     let made = c.in-Ok-events.ensures.read in
     cut_kept _ _ _ _ _ _ _ _ _ _
     (cut _ _ _ _ _ _ _ _ (sym (ap open_at c.as_bytes.ensures.value) ∙ sym c.in-Some.ensures) c.behind_numbers.ensures.read.1
     c.behind_numbers.ensures.all (sym c.in-Some-end.ensures) c.in_default.ensures.good)
-    kept.1 kept.2 made.1 made.2
+    c.in-Ok.ensures.read.0 c.in-Ok.ensures.read.1 made.1 made.2

@@ -13,37 +13,34 @@ pub returns-in_default-end : goal.returns-in_default-end
 returns-in_default-end c =
     inl (
       refl,
-      no_end c.args.text.now c.in-Some.threads c.in-Some.locks c.in-Some.conds c.in-Some.behind.now c.in-Ok.permits.items c.in-Ok.behind.now
-          (sym (ap open_at c.as_bytes.ensures.value) ∙ sym c.in-Some.ensures) c.in-Ok.ensures.0 c.in-Ok.ensures.1
-          (sym c.in_default-end.ensures),
+      no_end _ _ _ _ _ _ _ (sym (ap open_at c.as_bytes.ensures.value) ∙ sym c.in-Some.ensures) c.in-Ok.ensures.read.0
+          c.in-Ok.ensures.read.1 (sym c.in_default-end.ensures),
     )
 
 pub returns-in_default-split_once : goal.returns-in_default-split_once
 returns-in_default-split_once c =
-    let lines = c.in-Some-end.field-0.now in
-    let opens = opens_from c.args.text.now c.in-Some.threads c.in-Some.locks c.in-Some.conds c.in-Some.behind.now c.in-Ok.permits.items
-    c.in-Ok.behind.now lines (sym (ap open_at c.as_bytes.ensures.value) ∙ sym c.in-Some.ensures) c.in-Ok.ensures.0
-    (sym c.in-Some-end.ensures) in
-    let splits = opening_splits c.args.text.now c.in-Some.threads c.in-Some.locks c.in-Some.conds c.in-Ok.permits.items lines opens in
-    absurd (split_after 10 c.args.text.now splits.0 lines None (c.in_default-split_once.ensures {u = tt}).cases (omega arith)
-    splits.1 splits.2)
+    let opens =
+    opens_from c.args.text.now c.in-Some.threads c.in-Some.locks c.in-Some.conds _ _ _ _
+    (sym (ap open_at c.as_bytes.ensures.value) ∙ sym c.in-Some.ensures) c.in-Ok.ensures.read.0 (sym c.in-Some-end.ensures) in
+    let splits = opening_splits _ _ _ _ _ _ opens in
+    absurd (split_after 10 c.args.text.now splits.0 c.in-Some-end.field-0.now None (c.in_default-split_once.ensures {u = tt}).cases
+    (omega arith) splits.1 splits.2)
 
 pub returns-in-Err : goal.returns-in-Err
 returns-in-Err c =
     let read = sym (ap open_at c.as_bytes.ensures.value) ∙ sym c.in-Some.ensures in
-    let opens = opens_split c.args.text.now c.in-Some.threads c.in-Some.locks c.in-Some.conds c.in-Some.behind.now c.in-Ok.permits.items
-    c.in-Ok.behind.now c.in-Some-end.field-0.now c.in-Some-split_once.field-0-0 c.in-Some-split_once.lines read c.in-Ok.ensures.0
-    (sym c.in-Some-end.ensures) (c.in-Some-split_once.ensures {u = tt}).cases in
-    fails c.args.text.now c.in-Some.threads c.in-Some.locks c.in-Some.conds c.in-Some.behind.now c.in-Ok.permits.items
-    c.in-Some-split_once.lines.now c.in-Err.fault read opens c.in-Err.ensures.err
+    let opens =
+    opens_split c.args.text.now c.in-Some.threads c.in-Some.locks c.in-Some.conds _ _ _ _ c.in-Some-split_once.field-0-0
+    c.in-Some-split_once.lines read c.in-Ok.ensures.read.0 (sym c.in-Some-end.ensures) (c.in-Some-split_once.ensures {u = tt}).cases in
+    fails _ _ _ _ _ _ _ c.in-Err.fault read opens c.in-Err.ensures.err
 
 pub returns : goal.returns
 returns c =
     let read = sym (ap open_at c.as_bytes.ensures.value) ∙ sym c.in-Some.ensures in
     record {
       lines = c.in-Some-split_once.lines.now;
-      opens = opens_split c.args.text.now c.in-Some.threads c.in-Some.locks c.in-Some.conds c.in-Some.behind.now c.in-Ok.permits.items
-          c.in-Ok.behind.now c.in-Some-end.field-0.now c.in-Some-split_once.field-0-0 c.in-Some-split_once.lines read c.in-Ok.ensures.0
-          (sym c.in-Some-end.ensures) (c.in-Some-split_once.ensures {u = tt}).cases;
+      opens = opens_split c.args.text.now c.in-Some.threads c.in-Some.locks c.in-Some.conds _ _ _ _ c.in-Some-split_once.field-0-0
+          c.in-Some-split_once.lines read c.in-Ok.ensures.read.0 (sym c.in-Some-end.ensures)
+          (c.in-Some-split_once.ensures {u = tt}).cases;
       each = c.in-Ok-sightings.ensures.ok;
     }
