@@ -4,7 +4,6 @@ use Rattle.std.proofs.Common.{refl, subst, sym, ap, ◌∙◌, inl, inr}
 use Rattle.std.specs.Prelude.{◌&&◌, if◌then◌else◌}
 use Rattle.std.specs.List.{Contains}
 use Rattle.std.proofs.lemmas.Bool.{and_parts}
-use Rattle.std.proofs.lemmas.List.Elements.{Contains-push_cases}
 use Rattle.lot_events.specs.declared.events.Event.{Event}
 use Rattle.lot_events.specs.declared.events.Event.TheVariants.{Try, Take, Mark, Park, Free, Pass}
 use Rattle.lot_events.specs.declared.events.Seen.{Seen}
@@ -13,7 +12,7 @@ use Rattle.lot_core.specs.Steps.{SaysMore, passed_line}
 use Rattle.lot_core.specs.Sound.{IsOnce, IsSoundLockPart}
 use Rattle.lot_core.specs.Parts.{LockPart, lock_part, MayTry, LockAllowed, lock_part_after, LockStep, served}
 use Rattle.lot_core.proofs.Put.{by_bit, by_line, at_all, put_other, turned}
-use Rattle.lot_core.proofs.Members.{in_tail, in_head, in_none, two_from, once_tail, head_left, once_push, once_none}
+use Rattle.lot_core.proofs.Members.{each_push, unmarked_none, in_tail, in_head, in_none, two_from, once_tail, head_left, once_push, once_none}
 use Rattle.lot_core.proofs.Owners.{IsOwned, owners, owned, owned_none, owned_got, owned_left, owned_handed}
 
 -- of lock l, by its values: with n threads, what holds of it whatever steps led there
@@ -62,17 +61,8 @@ module _ {n l : ℕ} {held parked : Bool} {line : List ℕ} {has : ℕ → Bool}
     marked = λ u inside. is_parked;
     tried = λ clear some. absurd (cc);
     once = once_push line t h.once outside;
-    named = λ u inside. elim (Contains-push_cases line t u inside) [
-      | inl before ↦ h.named u before
-      | inr same ↦ subst (λ w. (w < n) × (wants w ≡ Some l)) same (near, is)
-    ];
+    named = each_push (λ u. (u < n) × (wants u ≡ Some l)) line t h.named (near, is);
   }
-
-  -- nobody is queued on an unmarked lock
-  unmarked_none : parked ≡ false → line ≡ []
-  unmarked_none clear = by_line (λ xs. xs ≡ []) line (λ e. refl) (λ u rest e.
-      let set : parked ≡ true = h.marked u (subst (λ xs. Contains xs u) (sym e) (in_head u rest)) in
-      absurd (cc))
 
   -- t lets it go where nobody is queued, and the parked bit becomes this
   leaves : (t : ℕ) (bit : Bool) → has t ≡ true → line ≡ [] → IsKeptLock n l false bit line (put has t false) wants
@@ -220,7 +210,7 @@ module _ (n : ℕ) (a : LockPart) (h : IsKeptLockPart n a) (t l : ℕ) where
         (λ unparked.
         at_all (λ i b. IsKeptLock n i (if b then false else s.held i) (s.parked i) (s.line i)
         (if b then put (s.has l) t false else s.has i) a.wants) l
-        (leaves (h l) t (s.parked l) has_it (unmarked_none (h l) unparked))
+        (leaves (h l) t (s.parked l) has_it (unmarked_none (s.line l) (h l).marked unparked))
         (λ i ne. h i))
 
     -- t passes l on to the first of its line, which it had before

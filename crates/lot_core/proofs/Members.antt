@@ -1,10 +1,10 @@
 -- What stands in a line after a thread joined it or left it.
-use Rattle.std.proofs.Common.{suc, ◌≢◌, ℕ, ◌+◌, ◌<◌, ◌≤◌, List, [], ◌∷◌, ◌++◌, length, take, drop, arith, subst, sym, inl, inr}
+use Rattle.std.proofs.Common.{◌≡◌, ◌≢◌, ℕ, Bool, true, false, suc, refl, ◌+◌, ◌<◌, ◌≤◌, List, [], ◌∷◌, ◌++◌, length, take, drop, arith, subst, sym, inl, inr}
 use Rattle.std.specs.List.{Contains}
 use Rattle.lot_core.specs.Sound.{IsOnce}
 use Rattle.std.proofs.lemmas.Bool.{cases_lt}
 use Rattle.std.proofs.lemmas.List.{take-append-drop, get_or-drop, length-drop, drop_all}
-use Rattle.std.proofs.lemmas.List.Elements.{Contains-append_left, Contains-append_right, Contains-push, Contains-get_or}
+use Rattle.std.proofs.lemmas.List.Elements.{Contains-append_left, Contains-append_right, Contains-push, Contains-push_cases, Contains-get_or}
 use Rattle.std.proofs.lemmas.List.Quantifiers.{all_pairs_push}
 
 pub in_tail : (u : ℕ) (rest : List ℕ) (t : ℕ) → Contains rest t → Contains (u ∷ rest) t
@@ -40,6 +40,16 @@ once_drop n xs h = λ i j d before within.
 
 pub some_behind : (n : ℕ) (xs : List ℕ) → drop n xs ≢ [] → n < length xs
 some_behind n xs some = elim (cases_lt n (length xs)) [ inl within ↦ within | inr past ↦ absurd (some (drop_all n xs past)) ]
+
+-- what holds of each of a line, and of who joins it
+pub each_push : (P : ℕ → Type 0) (xs : List ℕ) (t : ℕ) → ((u : ℕ) → Contains xs u → P u) → P t → (u : ℕ) → Contains (xs ++ t ∷ []) u → P u
+each_push P xs t each joins u inside =
+    elim (Contains-push_cases xs t u inside) [ inl before ↦ each u before | inr same ↦ subst P same joins ]
+
+-- where who stands in a line means that a bit is set, nobody does while it is clear
+pub unmarked_none : {bit : Bool} (xs : List ℕ) → ((t : ℕ) → Contains xs t → bit ≡ true) → bit ≡ false → xs ≡ []
+unmarked_none [] marked clear = refl
+unmarked_none (u ∷ rest) marked clear = let set = marked u (in_head u rest) in absurd (cc)
 
 pub once_none : IsOnce []
 once_none = λ i j d before within. absurd (omega arith)

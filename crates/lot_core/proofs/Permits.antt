@@ -5,7 +5,6 @@ use Rattle.std.specs.Prelude.{◌==◌, ◌&&◌, ◌||◌, if◌then◌else◌,
 use Rattle.std.specs.List.{Contains, list_any}
 use Rattle.std.proofs.lemmas.Bool.{eqb-true, eqb-false, eq-eqb, ne_eqb, and_parts, and_left, false_from_ne_true}
 use Rattle.std.proofs.lemmas.Cmp.{nat_eq_equiv}
-use Rattle.std.proofs.lemmas.List.Elements.{Contains-push_cases}
 use Rattle.std.proofs.lemmas.Map.Views.{Contains-from_any, list_any-from_Contains}
 use Rattle.lot_events.specs.declared.events.Event.{Event}
 use Rattle.lot_events.specs.declared.events.Event.TheVariants.{SemTake, SemMark, SemPark, SemFree, SemPass, SemClear}
@@ -17,7 +16,7 @@ use Rattle.lot_core.specs.Sound.{IsOnce, is_seeking, IsSoundSemaphorePart}
 use Rattle.lot_core.specs.Parts.{SemaphorePart, PartSeeks, SemaphoreAllowed, semaphore_part_after, SemaphoreStep}
 use Rattle.lot_core.proofs.Sums.{total_same, total_but, total_none, bit_le}
 use Rattle.lot_core.proofs.Put.{by_bit, by_line, at_all, put_same, put_other}
-use Rattle.lot_core.proofs.Members.{in_tail, in_head, in_none, two_from, once_tail, head_left, once_push, once_none}
+use Rattle.lot_core.proofs.Members.{each_push, unmarked_none, in_tail, in_head, in_none, two_from, once_tail, head_left, once_push, once_none}
 
 -- who stands in a line is found there
 pub found : (t : ℕ) (line : List ℕ) → Contains line t → list_any (nat_eq t) line ≡ true
@@ -146,17 +145,8 @@ module _ {n opening k left : ℕ} {parked : Bool} {line : List ℕ} {out : ℕ �
     marked = λ u inside. bit_set;
     sought = λ queued. omega arith;
     once = once_push line t h.once outside;
-    named = λ u inside. elim (Contains-push_cases line t u inside) [
-      | inl before ↦ h.named u before
-      | inr same ↦ subst (λ w. (w < n) × (seeks w ≡ Some k)) same (near, is)
-    ];
+    named = each_push (λ u. (u < n) × (seeks u ≡ Some k)) line t h.named (near, is);
   }
-
-  -- nobody is queued on an unmarked semaphore
-  unmarked_none : parked ≡ false → line ≡ []
-  unmarked_none clear = by_line (λ xs. xs ≡ []) line (λ e. refl) (λ u rest e.
-      let set : parked ≡ true = h.marked u (subst (λ xs. Contains xs u) (sym e) (in_head u rest)) in
-      absurd (cc))
 
   -- t gives a permit back, and nobody is queued
   gives : (t : ℕ) → t < n → 1 ≤ out t → line ≡ [] →
@@ -269,7 +259,7 @@ free_part n permits a t k h near some =
     (λ set. h)
     (λ clear. at_all (λ i b. IsKeptSemaphore n (permits i) i (if b then z.left k + 1 else z.left i) (z.parked i) (z.line i)
     (if b then put (z.out k) t (z.out k t - 1) else z.out i) a.seeks) k
-    (gives (h k) t near some (unmarked_none (h k) clear))
+    (gives (h k) t near some (unmarked_none (z.line k) (h k).marked clear))
     (λ i ne. h i))
 
 pub pass_part : (n : ℕ) (permits : ℕ → ℕ) (a : SemaphorePart) (t k : ℕ) (more : Bool) → IsKeptPart n permits a

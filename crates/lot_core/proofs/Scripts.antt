@@ -1,6 +1,6 @@
 -- What has been read of a script, line by line.
 use Rattle.std.proofs.Common.{◌≡◌, ◌≢◌, ◌<◌, ◌≤◌, ◌+◌, ◌++◌, ℕ, List, [], ◌∷◌, length, length-append, refl, sym, ap, ◌∙◌, subst, arith}
-use Rattle.std.proofs.Common.{append_assoc, inl, inr, Some, None}
+use Rattle.std.proofs.Common.{append_assoc, ◌⊎◌, inl, inr, Some, None}
 use Rattle.std.specs.Prelude.{codes}
 use Rattle.std.proofs.lemmas.List.{append-nil, nil_from_length}
 use Rattle.lot_events.specs.declared.events.Event.{Event}
@@ -79,31 +79,27 @@ so_done lines rest number so few none =
 pub not_nil : (rest : List ℕ) → 0 < length rest → rest ≢ []
 not_nil rest some e = omega (arith, ap length e)
 
-pub so_bad : (lines rest : List ℕ) (number : ℕ) → IsSoFar lines rest number → number ≤ MAX_LINES + 1 → 0 < length rest → NoEvent rest →
-    IsBadLine lines number
-so_bad lines rest number so few some none = record {
+-- line `number` is not as said, for one reason or the other
+so_fails : (lines rest : List ℕ) (number : ℕ) → IsSoFar lines rest number → number ≤ MAX_LINES + 1 → 0 < length rest →
+    NoEvent rest ⊎ (number ≡ MAX_LINES + 1) → IsBadLine lines number
+so_fails lines rest number so few some why = record {
   events = so.events;
   rest = rest;
   front = so.front;
   few = omega (arith, so.count);
   count = so.count;
   some = not_nil rest some;
-  why = inl none;
+  why = why;
 }
+
+pub so_bad : (lines rest : List ℕ) (number : ℕ) → IsSoFar lines rest number → number ≤ MAX_LINES + 1 → 0 < length rest → NoEvent rest →
+    IsBadLine lines number
+so_bad lines rest number so few some none = so_fails lines rest number so few some (inl none)
 
 pub so_many : (lines rest : List ℕ) (number : ℕ) → IsSoFar lines rest number → number ≡ MAX_LINES + 1 → 0 < length rest →
     IsBadLine lines (MAX_LINES + 1)
 so_many lines rest number so last some =
-    subst (IsBadLine lines) last
-    (record {
-      events = so.events;
-      rest = rest;
-      front = so.front;
-      few = omega (arith, so.count);
-      count = so.count;
-      some = not_nil rest some;
-      why = inr last;
-    })
+    subst (IsBadLine lines) last (so_fails lines rest number so (omega arith) some (inr last))
 
 -- a text was cut into its first line and good lines
 pub record IsCut (text : List ℕ) (n l c : ℕ) (numbers lines : List ℕ) : Type 0 where

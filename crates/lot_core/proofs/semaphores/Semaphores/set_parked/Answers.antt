@@ -11,7 +11,5 @@ returns-clause-sems c =
 
 pub returns-clause-numbers : goal.returns-clause-numbers
 returns-clause-numbers c =
-    let s = c.args.self.now in
-    let kept =
-    numbers_kept s.first_sem s.items.items c.args.sem c.index_mut.result.now _ c.requires.0 c.requires.1 c.index_mut.ensures.value refl in
+    let kept = numbers_kept _ _ _ _ _ c.requires.0 c.requires.1 c.index_mut.ensures.value refl in
     (refl, refl, kept.0, kept.1)

@@ -18,7 +18,5 @@ returns-clause-sems c =
 
 pub returns-clause-numbers : goal.returns-clause-numbers
 returns-clause-numbers c =
-    let s = c.args.self.now in
-    let kept = numbers_kept s.first_sem s.items.items c.args.sem c.index_mut.result.now _ c.requires.key.0 c.requires.key.1
-    c.index_mut.ensures.value c.take.ensures.others.0 in
+    let kept = numbers_kept _ _ _ _ _ c.requires.key.0 c.requires.key.1 c.index_mut.ensures.value c.take.ensures.others.0 in
     (refl, refl, kept.0, kept.1)
