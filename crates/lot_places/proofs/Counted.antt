@@ -1,6 +1,6 @@
 -- How often threads stand in a list that gets one more at its end, and that loses one; and the counts of it.
 use Rattle.std.proofs.Common.{◌≡◌, ◌≢◌, ℕ, suc, ◌+◌, ◌-◌, ◌<◌, inl, inr, List, [], ◌∷◌, ◌++◌, length, get_or, set, take, drop, remove}
-use Rattle.std.proofs.Common.{refl, sym, ◌∙◌, ap, subst, arith, zero-add}
+use Rattle.std.proofs.Common.{refl, sym, ◌∙◌, ap, arith, zero-add}
 use Rattle.std.proofs.lemmas.Bool.{ne_eqb}
 use Rattle.std.proofs.lemmas.Bool.Decides.{eqb_tells}
 use Rattle.std.proofs.lemmas.List.{length-set, length-map, get_or-map, get_or-set_same, get_or-set_other, take-append-drop, get_or_default}
@@ -23,71 +23,62 @@ times-remove t xs i lt =
     ∙ ap (λ ys. times t (take i xs) + times t ys) (drop-cons xs i 0 lt)) in
     omega (arith, split, times-append t (take i xs) (drop (suc i) xs), times-append t (here ∷ []) (drop (suc i) xs))
 
-one_in : (counts threads : List ℕ) (u : ℕ) → AreCounted counts threads → u < length counts
-    → AreCounted (set counts u (get_or counts u 0 + 1)) (threads ++ u ∷ [])
-one_in counts threads u counted within t near small =
+-- one more of u, and one of u less, are no change for another
+others_in : (threads : List ℕ) (u t : ℕ) → u ≢ t → times t (threads ++ u ∷ []) ≡ times t threads
+others_in threads u t other = omega (arith, times-append t threads (u ∷ []), times_other t u other)
+
+others_out : (threads : List ℕ) (u i t : ℕ) → i < length threads → get_or threads i 0 ≡ u → u ≢ t → times t (remove threads i) ≡ times t threads
+others_out threads u i t lt here other =
+    let left : times t (u ∷ []) + times t (remove threads i) ≡ times t threads = rw here at (times-remove t threads i lt) in
+    omega (arith, left, times_other t u other)
+
+-- the count of u becomes n, and those of others stay
+one_changed : (counts threads threads' : List ℕ) (u n : ℕ) → AreCounted counts threads → u < length counts → (n < 255 → n ≡ times u threads')
+    → ((t : ℕ) → u ≢ t → times t threads' ≡ times t threads) → AreCounted (set counts u n) threads'
+one_changed counts threads threads' u n counted within here there t near small =
     elim (eqb_tells u t) [
       | inl e ↦
-          let now : get_or (set counts u (get_or counts u 0 + 1)) t 0 ≡ get_or counts u 0 + 1 =
-          rw (sym e.1) (get_or-set_same counts u (get_or counts u 0 + 1) 0 within) in
-          let was = counted u within (omega (arith, now, small)) in
-          rw (sym e.1) (get_or-set_same counts u (get_or counts u 0 + 1) 0 within
-          ∙ omega (arith, was, times-append u threads (u ∷ []), times_here u []))
+          let now : get_or (set counts u n) t 0 ≡ n = rw (sym e.1) (get_or-set_same counts u n 0 within) in
+          now ∙ rw (sym e.1) (here (omega (arith, now, small)))
       | inr e ↦
-          let now : get_or (set counts u (get_or counts u 0 + 1)) t 0 ≡ get_or counts t 0 =
-          get_or-set_other counts u t (get_or counts u 0 + 1) 0 (λ same. e.1 (sym same)) in
-          let here : t < length counts = rw (length-set counts u (get_or counts u 0 + 1)) at near in
-          omega (arith, now, counted t here (rw now at small), times-append t threads (u ∷ []), times_other t u e.1)
+          let now : get_or (set counts u n) t 0 ≡ get_or counts t 0 = get_or-set_other counts u t n 0 (λ same. e.1 (sym same)) in
+          now ∙ (counted t (rw (length-set counts u n) at near) (rw now at small) ∙ sym (there t e.1))
+    ]
+
+-- nothing is known of u, and those of others stay
+not_changed : (counts threads threads' : List ℕ) (u : ℕ) → AreCounted counts threads → (u < length counts → get_or counts u 0 < 255 → ⊥)
+    → ((t : ℕ) → u ≢ t → times t threads' ≡ times t threads) → AreCounted counts threads'
+not_changed counts threads threads' u counted cannot there t near small =
+    elim (eqb_tells u t) [
+      | inl e ↦ absurd (cannot (rw e.1 near) (rw e.1 small))
+      | inr e ↦ counted t near small ∙ sym (there t e.1)
     ]
 
 -- n is what was read of the count
 pub counted_in : (counts threads : List ℕ) (u n : ℕ) → AreCounted counts threads → u < length counts → n ≡ get_or counts u n
     → AreCounted (set counts u (n + 1)) (threads ++ u ∷ [])
 counted_in counts threads u n counted within read =
-    subst (λ m. AreCounted (set counts u (m + 1)) (threads ++ u ∷ [])) (sym (read ∙ get_or_default counts u n 0 within))
-    (one_in counts threads u counted within)
+    let is : n ≡ get_or counts u 0 = read ∙ get_or_default counts u n 0 within in
+    one_changed counts threads (threads ++ u ∷ []) u (n + 1) counted within
+    (λ few. omega (arith, is, counted u within (omega (arith, is)), times-append u threads (u ∷ []), times_here u []))
+    (others_in threads u)
 
 pub not_counted_in : (counts threads : List ℕ) (u : ℕ) → AreCounted counts threads → (u < length counts → get_or counts u 0 < 255 → ⊥)
     → AreCounted counts (threads ++ u ∷ [])
-not_counted_in counts threads u counted cannot t near small =
-    elim (eqb_tells u t) [
-      | inl e ↦ absurd (cannot (rw e.1 near) (rw e.1 small))
-      | inr e ↦ omega (arith, counted t near small, times-append t threads (u ∷ []), times_other t u e.1)
-    ]
-
-one_out : (counts threads : List ℕ) (u i : ℕ) → AreCounted counts threads → i < length threads → get_or threads i 0 ≡ u
-    → u < length counts → get_or counts u 0 < 255 → AreCounted (set counts u (get_or counts u 0 - 1)) (remove threads i)
-one_out counts threads u i counted lt here within few t near small =
-    let left : times t (u ∷ []) + times t (remove threads i) ≡ times t threads = rw here at (times-remove t threads i lt) in
-    elim (eqb_tells u t) [
-      | inl e ↦
-          let was = counted u within few in
-          let now : get_or (set counts u (get_or counts u 0 - 1)) t 0 ≡ get_or counts u 0 - 1 =
-          rw (sym e.1) (get_or-set_same counts u (get_or counts u 0 - 1) 0 within) in
-          let gone : times u (u ∷ []) + times u (remove threads i) ≡ times u threads = rw here at (times-remove u threads i lt) in
-          now ∙ (rw (sym e.1) (omega (arith, was, gone, times_here u [])))
-      | inr e ↦
-          let now : get_or (set counts u (get_or counts u 0 - 1)) t 0 ≡ get_or counts t 0 =
-          get_or-set_other counts u t (get_or counts u 0 - 1) 0 (λ same. e.1 (sym same)) in
-          let kept : t < length counts = rw (length-set counts u (get_or counts u 0 - 1)) at near in
-          omega (arith, now, counted t kept (rw now at small), left, times_other t u e.1)
-    ]
+not_counted_in counts threads u counted cannot = not_changed counts threads (threads ++ u ∷ []) u counted cannot (others_in threads u)
 
 pub counted_out : (counts threads : List ℕ) (u i n : ℕ) → AreCounted counts threads → i < length threads → get_or threads i 0 ≡ u
     → u < length counts → n ≡ get_or counts u n → n < 255 → AreCounted (set counts u (n - 1)) (remove threads i)
 counted_out counts threads u i n counted lt here within read few =
     let is : n ≡ get_or counts u 0 = read ∙ get_or_default counts u n 0 within in
-    subst (λ m. AreCounted (set counts u (m - 1)) (remove threads i)) (sym is)
-    (one_out counts threads u i counted lt here within (subst (λ m. m < 255) is few))
+    let gone : times u (u ∷ []) + times u (remove threads i) ≡ times u threads = rw here at (times-remove u threads i lt) in
+    one_changed counts threads (remove threads i) u (n - 1) counted within
+    (λ _. omega (arith, is, counted u within (omega (arith, is)), gone, times_here u [])) (λ t. others_out threads u i t lt here)
 
 pub not_counted_out : (counts threads : List ℕ) (u i : ℕ) → AreCounted counts threads → i < length threads → get_or threads i 0 ≡ u
     → (u < length counts → get_or counts u 0 < 255 → ⊥) → AreCounted counts (remove threads i)
-not_counted_out counts threads u i counted lt here cannot t near small =
-    let left : times t (u ∷ []) + times t (remove threads i) ≡ times t threads = rw here at (times-remove t threads i lt) in
-    elim (eqb_tells u t) [
-      | inl e ↦ absurd (cannot (rw e.1 near) (rw e.1 small))
-      | inr e ↦ omega (arith, counted t near small, left, times_other t u e.1)
-    ]
+not_counted_out counts threads u i counted lt here cannot =
+    not_changed counts threads (remove threads i) u counted cannot (λ t. others_out threads u i t lt here)
 
 pub threads_of-push : (queue : List (ℕ × ℕ)) (p : ℕ × ℕ) → threads_of (queue ++ p ∷ []) ≡ threads_of queue ++ p.0 ∷ []
 threads_of-push queue p = map-append (λ (q : ℕ × ℕ). q.0) queue (p ∷ [])
