@@ -23,19 +23,15 @@ put_root-requires-clause-room g c =
 
 pub returns-clause-stays : goal.returns-clause-stays
 returns-clause-stays g c =
-    let own =
-    own_root g.S.Root.Root.view c.args.key c.args.bucket.now c.take_root-root.result c.requires.ready c.take_root-root.ensures.root in
+    let own = own_root g.S.Root.Root.view _ _ _ c.requires.ready c.take_root-root.ensures.root in
     let kept = c.requires.keeps c.take_root-root.result c.validate-x.result own.named own.paid c.validate-x.ensures in
-    parked_stays g.S.Root.Root.view c.args.key c.thread_of-thread.result c.args.bucket.now c.take_root-root.new.self
-    c.enqueue_if.new.bucket c.put_root.new.self
-    c.take_root-root.result c.validate-x.result.2 c.validate-x.result.3 c.requires.ready c.take_root-root.ensures.root
+    parked_stays g.S.Root.Root.view _ _ _ _ _ _ _ _ c.validate-x.result.3 c.requires.ready c.take_root-root.ensures.root
     c.take_root-root.ensures.left c.enqueue_if.ensures c.put_root.ensures
     kept.1 kept.2 (λ joins. rw c.thread_of-thread.ensures (kept.3 joins)) kept.4
 
 pub returns-clause-called : goal.returns-clause-called
 returns-clause-called g c =
-    let own =
-    own_root g.S.Root.Root.view c.args.key c.args.bucket.now c.take_root-root.result c.requires.ready c.take_root-root.ensures.root in
+    let own = own_root g.S.Root.Root.view _ _ _ c.requires.ready c.take_root-root.ensures.root in
     record {
       root = c.take_root-root.result;
       back = c.validate-x.result.2;

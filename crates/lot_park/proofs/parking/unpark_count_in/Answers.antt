@@ -8,8 +8,7 @@ use Rattle.lot_park.proofs.parking.unpark_count_in.Goals.{After-take_first-root}
 use Rattle.lot_park.proofs.parking.unpark_count_in.Goals as goal
 
 own : (g : Over) (c : After-take_first-root g) → IsRootOf g.S.Root.Root.view c.args.key c.args.bucket.now.queue c.take_first-root.result.0
-own g c = own_root g.S.Root.Root.view c.args.key c.args.bucket.now c.take_first-root.result.0 c.requires.ready
-    c.take_first-root.ensures.root
+own g c = own_root g.S.Root.Root.view _ _ _ c.requires.ready c.take_first-root.ensures.root
 
 -- what the callback is told
 told : (g : Over) (c : After-take_first-root g)
@@ -39,9 +38,7 @@ returns-clause-stays g c =
     let kept = c.requires.keeps c.take_first-root.result.0 c.take_first-root.result.1 c.take_first-root.result.2 c.f-y.result
     (own g at).named (own g at).paid (told g at) c.f-y.ensures in
     let left = c.take_first-root.ensures.left in
-    unparked_stays g.S.Root.Root.view c.args.key c.args.count c.args.bucket.now c.take_first-root.new.bucket c.put_root.new.self
-    c.take_first-root.result.0 c.pay_all-root.result
-    c.requires.ready c.take_first-root.ensures.root
+    unparked_stays g.S.Root.Root.view _ _ _ _ _ _ _ c.requires.ready c.take_first-root.ensures.root
     (ap (λ (b : Contents g.row.S-Root.Denot). b.opened) left) (ap (λ (b : Contents g.row.S-Root.Denot). b.room) left)
     (ap (λ (b : Contents g.row.S-Root.Denot). b.places) left)
     (ap (λ (b : Contents g.row.S-Root.Denot). b.queue) left)

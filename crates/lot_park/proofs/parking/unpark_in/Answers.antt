@@ -9,15 +9,13 @@ use Rattle.lot_park.proofs.parking.unpark_in.Goals.{After-dequeue_one-told}
 use Rattle.lot_park.proofs.parking.unpark_in.Goals as goal
 
 own : (g : Over) (c : After-dequeue_one-told g) → IsRootOf g.S.Root.Root.view c.args.key c.args.bucket.now.queue c.take_root-root.result
-own g c = own_root g.S.Root.Root.view c.args.key c.args.bucket.now c.take_root-root.result c.requires.ready c.take_root-root.ensures.root
+own g c = own_root g.S.Root.Root.view _ _ _ c.requires.ready c.take_root-root.ensures.root
 
 -- what the callback is told
 told : (g : Over) (c : After-dequeue_one-told g)
     → Tells (g.S.Root.Root.view c.take_root-root.result).line c.args.moment.now c.dequeue_one-told.result
 told g c =
-    tells g.S.Root.Root.view c.args.key c.args.moment c.args.bucket.now c.take_root-root.new.self c.dequeue_one-told.new.self
-    c.take_root-root.result c.dequeue_one-told.result
-    (own g c).same_line (ap (λ (b : Contents g.row.S-Root.Denot). b.queue) c.take_root-root.ensures.left) c.dequeue_one-told.ensures
+    tells g.S.Root.Root.view _ _ c.args.bucket.now _ _ _ _ (own g c).same_line (ap (λ (b : Contents g.row.S-Root.Denot). b.queue) c.take_root-root.ensures.left) c.dequeue_one-told.ensures
 
 -- while the root is out
 out : (g : Over) (c : After-dequeue_one-told g) → c.dequeue_one-told.new.self.places ≡ with_root c.args.key None c.args.bucket.now.places
@@ -49,9 +47,7 @@ returns-clause-stays g c =
     let at = (goal.at.returns-clause-stays g c).After-dequeue_one-told in
     let kept = c.requires.keeps c.take_root-root.result c.dequeue_one-told.result c.callback-y.result (own g at).named (own g at).paid
     (told g at) c.callback-y.ensures in
-    one_unparked_stays g.S.Root.Root.view c.args.key c.args.moment c.args.bucket.now c.take_root-root.new.self
-    c.dequeue_one-told.new.self c.put_root.new.self
-    c.take_root-root.result c.pay-root.result c.dequeue_one-told.result c.requires.ready c.take_root-root.ensures.root
+    one_unparked_stays g.S.Root.Root.view _ _ _ _ _ _ _ _ _ c.requires.ready c.take_root-root.ensures.root
     c.take_root-root.ensures.left c.dequeue_one-told.ensures c.put_root.ensures
     (c.pay-root.ensures.key ∙ kept.0) (c.pay-root.ensures.line ∙ kept.1) c.pay-root.ensures.paid
 
