@@ -31,31 +31,10 @@ use Rattle.lot_whole.specs.Whole.{Joined, Joins, Stands, StandsMove, stand_of, r
 -- ---- no event changes how many there are
 pub counts_after : (s : StateView) (e : Event) → counts_in (after s e) ≡ counts_in s
 counts_after s (Try t l) = refl
-counts_after s (Take t l) = refl
-counts_after s (Mark t l) = refl
-counts_after s (Park t l) = refl
-counts_after s (Free t l) = refl
-counts_after s (Pass t l fair more) = refl
-counts_after s (Enlist t c l) = refl
-counts_after s (Look t c) = refl
-counts_after s (Call t c n more) = refl
-counts_after s (Lower t c) = refl
-counts_after s (Sweep t c) = refl
-counts_after s (SemTake t k) = refl
-counts_after s (SemMark t k) = refl
-counts_after s (SemPark t k) = refl
-counts_after s (SemFree t k) = refl
-counts_after s (SemPass t k more) = refl
-counts_after s (SemClear t k) = refl
+counts_after s _ = refl
 
 -- ---- an event is of one kind
 kind_of : Event → Which
-kind_of (Try t l) = lock
-kind_of (Take t l) = lock
-kind_of (Mark t l) = lock
-kind_of (Park t l) = lock
-kind_of (Free t l) = lock
-kind_of (Pass t l fair more) = lock
 kind_of (Enlist t c l) = cond
 kind_of (Look t c) = cond
 kind_of (Call t c n more) = cond
@@ -67,6 +46,7 @@ kind_of (SemPark t k) = sem
 kind_of (SemFree t k) = sem
 kind_of (SemPass t k more) = sem
 kind_of (SemClear t k) = sem
+kind_of _ = lock
 
 is_kind : (j : Which) (e : Event) → IsEventIn j e → kind_of e ≡ j
 unfolding kind_of
