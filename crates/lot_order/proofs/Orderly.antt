@@ -6,9 +6,9 @@ use Rattle.std.proofs.lemmas.Bool.{cases_eq, eqb-true}
 use Rattle.lot_events.specs.declared.events.Point.{Point}
 use Rattle.lot_events.specs.declared.events.Point.TheVariants.{Calm, Wants, Bed, Rest, Sweeps, Seeks}
 use Rattle.lot_events.specs.declared.events.Event.{Event}
-use Rattle.lot_events.specs.declared.events.Event.TheVariants.{Try, Take, Mark, Park, Free, Pass}
-use Rattle.lot_events.specs.declared.events.Event.TheVariants.{Enlist, Look, Call, Lower, Sweep, SemTake}
-use Rattle.lot_events.specs.declared.events.Event.TheVariants.{SemMark, SemPark, SemFree, SemPass, SemClear}
+use Rattle.lot_events.specs.declared.events.Event.TheVariants.{Try, Take, Park, Free, Pass}
+use Rattle.lot_events.specs.declared.events.Event.TheVariants.{Enlist, Lower, Sweep, SemTake}
+use Rattle.lot_events.specs.declared.events.Event.TheVariants.{SemPark, SemFree, SemPass}
 use Rattle.lot_core.specs.Model.{StateView, Locks, Semaphores, put}
 use Rattle.lot_core.specs.Steps.{MayLetGo, Allowed, Run, after, after_all, passed_line, handed, let_go, released}
 use Rattle.lot_core.specs.Steps.{none_left, permit_given}
@@ -255,24 +255,20 @@ pub event_ordered : (above : ℕ → ℕ → Type 0) (s : StateView) (e : Event)
     → IsOrdered above (after s e)
 event_ordered above s (Try t l) ordered ok keeps = try_ordered above s t l ordered ok.2
 event_ordered above s (Take t l) ordered ok keeps = take_ordered above s t l ordered ok.1 keeps
-event_ordered above s (Mark t l) ordered ok keeps = ordered
 event_ordered above s (Park t l) ordered ok keeps = park_ordered above s t l ordered
 event_ordered above s (Free t l) ordered ok keeps = free_ordered above s t l ordered ok.3
 event_ordered above s (Pass t l fair more) ordered ok keeps = pass_ordered above s t l fair more ordered ok.4
 event_ordered above s (Enlist t c l) ordered ok keeps =
     let lock = ok.2 in
     went_ordered above s t (Bed c l) ordered (omega (arith, lock), keeps)
-event_ordered above s (Look t c) ordered ok keeps = ordered
-event_ordered above s (Call t c n more) ordered ok keeps = ordered
 event_ordered above s (Lower t c) ordered ok keeps = went_ordered above s t (Sweeps c) ordered tt
 event_ordered above s (Sweep t c) ordered ok keeps = went_ordered above s t Calm ordered tt
 event_ordered above s (SemTake t k) ordered ok keeps =
     sem_take_ordered above s t k ordered ok.1.1 keeps
-event_ordered above s (SemMark t k) ordered ok keeps = ordered
 event_ordered above s (SemPark t k) ordered ok keeps = sem_park_ordered above s t k ordered
 event_ordered above s (SemFree t k) ordered ok keeps = sem_free_ordered above s t k ordered ok.2
 event_ordered above s (SemPass t k more) ordered ok keeps = sem_pass_ordered above s t k more ordered ok.2
-event_ordered above s (SemClear t k) ordered ok keeps = ordered
+event_ordered above s _ ordered ok keeps = ordered
 
 pub run_ordered : (above : ℕ → ℕ → Type 0) (s : StateView) (events : List Event) → IsOrdered above s → OrderlyRun above s events
     → Run s events × IsOrdered above (after_all s events)
