@@ -14,6 +14,16 @@ use Rattle.lot_rights.specs.Steps.{AllowsPass, AllowsBoth, AllowsRoot, TellsOfTw
 use Rattle.lot_rights.specs.Steps.{ToldFact}
 use Rattle.lot_rights.proofs.Stepping.{steps_pass, steps_both, steps_root, steps_two, steps_fact}
 
+-- a right is of the table whose words are seen with it, and what is allowed with it as it is seen is so with it as it is
+pub of_table : {A Key : Type 0} (table : A → TableId) {inside now : WordsShown Key} → inside ≡ now → {mine shown : A} → mine ≡ shown
+    → table shown ≡ now.table → table mine ≡ inside.table
+of_table table is e here = ap table e ∙ (here ∙ sym (ap (λ (x : WordsShown _). x.table) is))
+
+pub allowed_with : {A Key : Type 0} (Allowed : Key → A → Type 0) {inside now : WordsShown Key} → inside ≡ now → {mine shown : A} → mine ≡ shown
+    → Allowed now.key shown → Allowed inside.key mine
+allowed_with {A} Allowed {now = now} is {mine} e allows =
+    subst (λ (x : WordsShown _). Allowed x.key mine) (sym is) (subst (λ (x : A). Allowed now.key x) (sym e) allows)
+
 module _ {S P R Key : Type 0} (meaning : Key → Meaning S P R) (apart : (key : Key) → LinesHaveNoLetter (meaning key))
     (inside now : WordsShown Key) (is : inside ≡ now) where
   table_is : now.table ≡ inside.table
@@ -22,14 +32,6 @@ module _ {S P R Key : Type 0} (meaning : Key → Meaning S P R) (apart : (key : 
   pub word_in_table : (i : ℕ) → i < now.table.words → i < inside.table.words
   word_in_table i near = subst (λ (x : WordsShown Key). i < x.table.words) (sym is) near
 
-  -- what is allowed with a right as it is shown is so with the right itself, which is of this table
-  ready_one : {A : Type 0} (table : A → TableId) (Allowed : Key → A → Type 0) (mine shown : A) → mine ≡ shown
-      → table shown ≡ now.table → Allowed now.key shown → (table mine ≡ inside.table) × Allowed inside.key mine
-  ready_one {A} table Allowed mine shown e here allows = (
-    ap table e ∙ (here ∙ table_is),
-    subst (λ (x : WordsShown Key). Allowed x.key mine) (sym is) (subst (λ (x : A). Allowed now.key x) (sym e) allows),
-  )
-
   pub ready_pass : (mine shown : PassShown P) → mine ≡ shown → (table : TableId) → table ≡ shown.table
       → (id : ℕ) (me : Me S (List (Right P R))) → me ≡ (Pass (right_of_pass mine) ∷ [], [])
       → (i : ℕ) (f : ℕ → ℕ) (then : ℕ → PassShown P → Type 0)
@@ -37,12 +39,12 @@ module _ {S P R Key : Type 0} (meaning : Key → Meaning S P R) (apart : (key : 
       → (mine.table ≡ inside.table) × (i < inside.table.words)
       × Allows (Ruled (meaning inside.key)) inside.table.slots id me i f (ToldPass table (right_of_pass mine) then)
   ready_pass mine shown e table named id me one i f then here near allows =
-      let own = ready_one (λ x. x.table) (λ key x. AllowsPass (meaning key) i f x then) mine shown e here allows in (
-        own.0,
+      let own = allowed_with (λ key x. AllowsPass (meaning key) i f x then) is e allows in (
+        of_table (λ (x : PassShown _). x.table) is e here,
         word_in_table i near,
         subst (λ t. Allows (Ruled (meaning inside.key)) inside.table.slots id me i f (ToldPass t (right_of_pass mine) then))
             (ap (λ (x : PassShown P). x.table) e ∙ sym named)
-            (steps_pass (meaning inside.key) (apart inside.key) inside.table.slots id me mine i f then one own.1),
+            (steps_pass (meaning inside.key) (apart inside.key) inside.table.slots id me mine i f then one own),
       )
 
   -- the pass p and the root q at one seat; `nobody` and `nothing` stand for what no pass and no root knows
@@ -75,12 +77,12 @@ module _ {S P R Key : Type 0} (meaning : Key → Meaning S P R) (apart : (key : 
       → (mine.table ≡ inside.table) × (i < inside.table.words)
       × Allows (Ruled (meaning inside.key)) inside.table.slots id me i f (ToldRoot table (right_of_root mine) then)
   ready_root mine shown e table named id me one i f then here near allows =
-      let own = ready_one (λ x. x.table) (λ key x. AllowsRoot (meaning key) i f x then) mine shown e here allows in (
-        own.0,
+      let own = allowed_with (λ key x. AllowsRoot (meaning key) i f x then) is e allows in (
+        of_table (λ (x : RootShown _). x.table) is e here,
         word_in_table i near,
         subst (λ t. Allows (Ruled (meaning inside.key)) inside.table.slots id me i f (ToldRoot t (right_of_root mine) then))
             (ap (λ (x : RootShown R). x.table) e ∙ sym named)
-            (steps_root (meaning inside.key) (apart inside.key) inside.table.slots id me mine i f then one own.1),
+            (steps_root (meaning inside.key) (apart inside.key) inside.table.slots id me mine i f then one own),
       )
 
   -- the passes p and q at one seat
@@ -107,10 +109,10 @@ module _ {S P R Key : Type 0} (meaning : Key → Meaning S P R) (apart : (key : 
       → (mine.table ≡ inside.table) × (0 < inside.table.words)
       × Allows (Ruled (meaning inside.key)) inside.table.slots id me 0 (λ n. n) (λ _ me'. ToldFact fact me me')
   ready_fact mine shown e here some id me one fact tells =
-      let own = ready_one (λ x. x.table) (λ key x. TellsOfRoot (meaning key) x fact) mine shown e here tells in (
-        own.0,
+      let own = allowed_with (λ key x. TellsOfRoot (meaning key) x fact) is e tells in (
+        of_table (λ (x : RootShown _). x.table) is e here,
         some,
-        steps_fact (meaning inside.key) (apart inside.key) inside.table.slots id me mine 0 fact one own.1,
+        steps_fact (meaning inside.key) (apart inside.key) inside.table.slots id me mine 0 fact one own,
       )
 
 -- ---- a root after its step

@@ -1,26 +1,24 @@
-use Rattle.std.proofs.Common.{◌≡◌, [], ◌∷◌, sym, ap, ◌∙◌}
+use Rattle.std.proofs.Common.{◌≡◌, [], ◌∷◌, ap, ◌∙◌}
 use Rattle.lot_rights.specs.declared.views.Right.TheVariants.{Pass}
-use Rattle.lot_rights.specs.Shown.{PassShown, WordsShown, right_of_pass}
+use Rattle.lot_rights.specs.Shown.{PassShown, right_of_pass}
 use Rattle.lot_rights.proofs.Joining.{joins_rule, parts_two}
-use Rattle.lot_rights.proofs.Ready.{ready_two, one_shown, two_joined}
+use Rattle.lot_rights.proofs.Ready.{of_table, ready_two, one_shown, two_joined}
 use Rattle.lot_rights.proofs.words.WordsOf.check_two.Given.{Over}
 use Rattle.lot_rights.proofs.words.WordsOf.check_two.Goals.{After-join_seat}
 use Rattle.lot_rights.proofs.words.WordsOf.check_two.Goals as goal
 
 pub join_seat-requires : goal.join_seat-requires
-join_seat-requires g c =
-    let here = sym (ap (λ (x : WordsShown _). x.table) c.self.view_is) in (
-      ap (λ (x : PassShown _). x.table) c.first.view_is ∙ (c.requires.table.0 ∙ here),
-      ap (λ (x : PassShown _). x.table) c.second.view_is ∙ (c.requires.table.1 ∙ here),
-      ap (λ m. m.1) c.second.inside.one,
-      c.self.inside.some,
-      joins_rule (g.K.Kind.meaning c.self.inside.table.shared.key) _ _ _ _,
-    )
+join_seat-requires g c = (
+  of_table (λ (x : PassShown _). x.table) c.self.view_is c.first.view_is c.requires.table.0,
+  of_table (λ (x : PassShown _). x.table) c.self.view_is c.second.view_is c.requires.table.1,
+  ap (λ m. m.1) c.second.inside.one,
+  c.self.inside.some,
+  joins_rule (g.K.Kind.meaning c.self.inside.table.shared.key) _ _ _ _,
+)
 
 -- the seat that has both passes
 here : (g : Over) (c : After-join_seat g) → c.join_seat.new.seat.table_id ≡ c.self.inside.table.shared.table_id
-here g c = c.join_seat.ensures.0 ∙ (ap (λ (x : PassShown _). x.table) c.first.view_is
-    ∙ (c.requires.table.0 ∙ sym (ap (λ (x : WordsShown _). x.table) c.self.view_is)))
+here g c = c.join_seat.ensures.0 ∙ of_table (λ (x : PassShown _). x.table) c.self.view_is c.first.view_is c.requires.table.0
 
 two : (g : Over) (c : After-join_seat g)
     → c.join_seat.new.seat.me ≡ (Pass (right_of_pass c.args.first) ∷ Pass (right_of_pass c.args.second) ∷ [], [])
