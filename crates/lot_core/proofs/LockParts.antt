@@ -12,7 +12,8 @@ use Rattle.lot_core.specs.Steps.{SaysMore, passed_line}
 use Rattle.lot_core.specs.Sound.{IsOnce, IsSoundLockPart}
 use Rattle.lot_core.specs.Parts.{LockPart, lock_part, MayTry, LockAllowed, lock_part_after, LockStep, served}
 use Rattle.lot_core.proofs.Put.{by_bit, by_line, at_all, put_other, turned}
-use Rattle.lot_core.proofs.Members.{each_push, unmarked_none, in_tail, in_head, in_none, two_from, once_tail, head_left, once_push, once_none}
+use Rattle.lot_core.proofs.Members.{in_tail, in_head, in_none, two_from, once_tail, head_left, once_push, once_none}
+use Rattle.lot_core.proofs.Members.{each_push, unmarked_none}
 use Rattle.lot_core.proofs.Owners.{IsOwned, owners, owned, owned_none, owned_got, owned_left, owned_handed}
 
 -- of lock l, by its values: with n threads, what holds of it whatever steps led there

@@ -16,7 +16,8 @@ use Rattle.lot_core.specs.Sound.{IsOnce, is_seeking, IsSoundSemaphorePart}
 use Rattle.lot_core.specs.Parts.{SemaphorePart, PartSeeks, SemaphoreAllowed, semaphore_part_after, SemaphoreStep}
 use Rattle.lot_core.proofs.Sums.{total_same, total_but, total_none, bit_le}
 use Rattle.lot_core.proofs.Put.{by_bit, by_line, at_all, put_same, put_other}
-use Rattle.lot_core.proofs.Members.{each_push, unmarked_none, in_tail, in_head, in_none, two_from, once_tail, head_left, once_push, once_none}
+use Rattle.lot_core.proofs.Members.{in_tail, in_head, in_none, two_from, once_tail, head_left, once_push, once_none}
+use Rattle.lot_core.proofs.Members.{each_push, unmarked_none}
 
 -- who stands in a line is found there
 pub found : (t : ℕ) (line : List ℕ) → Contains line t → list_any (nat_eq t) line ≡ true

@@ -180,8 +180,8 @@ cut_kept text n l c numbers lines permits behind events rest is reads all front 
     none_left (e ∷ more) parts (first, spells, (behind', each, same)) = absurd (none e first behind' spells same)
 
 -- with a permit or an event memory is wanted for it
-cut_wants : {text : List ℕ} {n l c : ℕ} {numbers lines : List ℕ} → (is : IsCut text n l c numbers lines) → 0 < length is.permits + length is.events
-    → WantsMemory text
+cut_wants : {text : List ℕ} {n l c : ℕ} {numbers lines : List ℕ} → (is : IsCut text n l c numbers lines)
+    → 0 < length is.permits + length is.events → WantsMemory text
 cut_wants {n = n} {l} {c} is some =
     record { threads = n; locks = l; conds = c; permits = is.permits; events = is.events; spells = is.script; some = some }
 

@@ -27,14 +27,15 @@ times-remove t xs i lt =
 others_in : (threads : List ℕ) (u t : ℕ) → u ≢ t → times t (threads ++ u ∷ []) ≡ times t threads
 others_in threads u t other = omega (arith, times-append t threads (u ∷ []), times_other t u other)
 
-others_out : (threads : List ℕ) (u i t : ℕ) → i < length threads → get_or threads i 0 ≡ u → u ≢ t → times t (remove threads i) ≡ times t threads
+others_out : (threads : List ℕ) (u i t : ℕ) → i < length threads → get_or threads i 0 ≡ u → u ≢ t
+    → times t (remove threads i) ≡ times t threads
 others_out threads u i t lt here other =
     let left : times t (u ∷ []) + times t (remove threads i) ≡ times t threads = rw here at (times-remove t threads i lt) in
     omega (arith, left, times_other t u other)
 
 -- the count of u becomes n, and those of others stay
-one_changed : (counts threads threads' : List ℕ) (u n : ℕ) → AreCounted counts threads → u < length counts → (n < 255 → n ≡ times u threads')
-    → ((t : ℕ) → u ≢ t → times t threads' ≡ times t threads) → AreCounted (set counts u n) threads'
+one_changed : (counts threads threads' : List ℕ) (u n : ℕ) → AreCounted counts threads → u < length counts
+    → (n < 255 → n ≡ times u threads') → ((t : ℕ) → u ≢ t → times t threads' ≡ times t threads) → AreCounted (set counts u n) threads'
 one_changed counts threads threads' u n counted within here there t near small =
     elim (eqb_tells u t) [
       | inl e ↦

@@ -19,8 +19,8 @@ pub of_table : {A Key : Type 0} (table : A → TableId) {inside now : WordsShown
     → table shown ≡ now.table → table mine ≡ inside.table
 of_table table is e here = ap table e ∙ (here ∙ sym (ap (λ (x : WordsShown _). x.table) is))
 
-pub allowed_with : {A Key : Type 0} (Allowed : Key → A → Type 0) {inside now : WordsShown Key} → inside ≡ now → {mine shown : A} → mine ≡ shown
-    → Allowed now.key shown → Allowed inside.key mine
+pub allowed_with : {A Key : Type 0} (Allowed : Key → A → Type 0) {inside now : WordsShown Key} → inside ≡ now → {mine shown : A}
+    → mine ≡ shown → Allowed now.key shown → Allowed inside.key mine
 allowed_with {A} Allowed {now = now} is {mine} e allows =
     subst (λ (x : WordsShown _). Allowed x.key mine) (sym is) (subst (λ (x : A). Allowed now.key x) (sym e) allows)
 

@@ -15,7 +15,8 @@ own g c = own_root g.S.Root.Root.view _ _ _ c.requires.ready c.take_root-root.en
 told : (g : Over) (c : After-dequeue_one-told g)
     → Tells (g.S.Root.Root.view c.take_root-root.result).line c.args.moment.now c.dequeue_one-told.result
 told g c =
-    tells g.S.Root.Root.view _ _ c.args.bucket.now _ _ _ _ (own g c).same_line (ap (λ (b : Contents g.row.S-Root.Denot). b.queue) c.take_root-root.ensures.left) c.dequeue_one-told.ensures
+    tells g.S.Root.Root.view _ _ c.args.bucket.now _ _ _ _ (own g c).same_line
+    (ap (λ (b : Contents g.row.S-Root.Denot). b.queue) c.take_root-root.ensures.left) c.dequeue_one-told.ensures
 
 -- while the root is out
 out : (g : Over) (c : After-dequeue_one-told g) → c.dequeue_one-told.new.self.places ≡ with_root c.args.key None c.args.bucket.now.places

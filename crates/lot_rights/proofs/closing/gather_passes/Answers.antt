@@ -23,7 +23,8 @@ loop-pass-preserved g c =
     record {
       table = c.join_seat.ensures.0 ∙ c.loop-pass.invariant.table;
       all =
-          (all_popped (λ (p : PassShown _). p.table ≡ c.args.shared.now.table_id) _ _ _ c.in-Some.ensures.items c.loop-pass.invariant.all).0;
+          (all_popped (λ (p : PassShown _). p.table ≡ c.args.shared.now.table_id) _ _ _ c.in-Some.ensures.items
+          c.loop-pass.invariant.all).0;
       rights =
           gathered right _ _ _ _ _ _ (ap (λ m. m.0) c.join_seat.ensures.2) (ap (λ m. m.0) own) c.in-Some.ensures.items
           ∙ c.loop-pass.invariant.rights;

@@ -23,7 +23,8 @@ loop-root-preserved g c =
     record {
       table = c.join_seat.ensures.0 ∙ c.loop-root.invariant.table;
       all =
-          (all_popped (λ (q : RootShown _). q.table ≡ c.args.shared.now.table_id) _ _ _ c.in-Some.ensures.items c.loop-root.invariant.all).0;
+          (all_popped (λ (q : RootShown _). q.table ≡ c.args.shared.now.table_id) _ _ _ c.in-Some.ensures.items
+          c.loop-root.invariant.all).0;
       rights =
           gathered right _ _ _ _ _ _ (ap (λ m. m.0) c.join_seat.ensures.2) (ap (λ m. m.0) own) c.in-Some.ensures.items
           ∙ c.loop-root.invariant.rights;
