@@ -7,8 +7,9 @@ ghost use Rattle.lot_sync.specs.Opened.{IsNamed};
 use crate::asserts::{copies, equal, failed};
 use crate::counts::Count;
 use crate::passes::{enter, start};
+use crate::schedules::{come, leave, on_conds};
 use crate::steps::Step;
-use crate::waits::{COND, on_conds};
+use crate::waits::COND;
 use lot_calls::finish;
 use lot_sync::{Freed, Lot, LotName, Moment, Opened, Pass, Released};
 use std::alloc::Global;
@@ -30,10 +31,7 @@ const BUCKETS: usize = 12;
 const FAIR: u64 = 5;
 
 /// Two permits for two passes, and then both for one: none is left for a third.
-static TWO_PERMITS: [(usize, Step); 16] = [
-    (0, Step::Register(0)),
-    (1, Step::Register(1)),
-    (2, Step::Register(2)),
+static TWO_PERMITS: [(usize, Step); 10] = [
     (0, Step::TryAcquire(PAIR, true)),
     (1, Step::TryAcquire(PAIR, true)),
     (2, Step::TryAcquire(PAIR, false)),
@@ -44,57 +42,49 @@ static TWO_PERMITS: [(usize, Step); 16] = [
     (2, Step::TryAcquire(PAIR, true)),
     (0, Step::Release(0, Freed::Quiet)),
     (2, Step::Release(0, Freed::Quiet)),
-    (0, Step::Leave),
-    (1, Step::Leave),
-    (2, Step::Leave),
 ];
 
 #[test]
 fn try_acquire_succeeds(rt: HostRuntime) {
-    on_conds(&rt, rt.alloc(), 3, &TWO_PERMITS, (0, 0));
+    let parts = [come(3), &TWO_PERMITS, leave(3)];
+    on_conds(&rt, rt.alloc(), 3, &parts, (0, 0));
 }
 
 /// One pass gets both permits, and finds that none is left.
-static BOTH_FOR_ONE: [(usize, Step); 7] = [
-    (0, Step::Register(0)),
+static BOTH_FOR_ONE: [(usize, Step); 5] = [
     (0, Step::TryAcquire(PAIR, true)),
     (0, Step::TryAcquire(PAIR, true)),
     (0, Step::TryAcquire(PAIR, false)),
     (0, Step::Release(0, Freed::Quiet)),
     (0, Step::Release(0, Freed::Quiet)),
-    (0, Step::Leave),
 ];
 
 #[test]
 fn one_pass_gets_both_permits(rt: HostRuntime) {
-    on_conds(&rt, rt.alloc(), 1, &BOTH_FOR_ONE, (0, 0));
+    let parts = [come(1), &BOTH_FOR_ONE, leave(1)];
+    on_conds(&rt, rt.alloc(), 1, &parts, (0, 0));
 }
 
 /// The one permit is given back at moment 0 while another thread sleeps for it, which gets it.
-static WOKEN_FOR_A_PERMIT: [(usize, Step); 10] = [
-    (0, Step::Register(0)),
-    (1, Step::Register(1)),
+static WOKEN_FOR_A_PERMIT: [(usize, Step); 6] = [
     (0, Step::Acquire(SINGLE)),
     (1, Step::SleepFor(SINGLE)),
     (0, Step::AwaitLine(SINGLE, 1)),
     (0, Step::Release(0, Freed::Woke)),
     (1, Step::Line(SINGLE, 0)),
     (1, Step::Release(0, Freed::Quiet)),
-    (0, Step::Leave),
-    (1, Step::Leave),
 ];
 
 #[test]
 fn a_release_wakes_a_sleeper_at_moment_0(rt: HostRuntime) {
-    on_conds(&rt, rt.alloc(), 2, &WOKEN_FOR_A_PERMIT, (0, 0));
+    let parts = [come(2), &WOKEN_FOR_A_PERMIT, leave(2)];
+    on_conds(&rt, rt.alloc(), 2, &parts, (0, 0));
 }
 
 /// The one permit is given back at the fair moment while another thread sleeps for it, and a waiting thread is notified
 /// then. After each of these the next fair moment of the bucket was moved on: a lock in it on which another thread
 /// sleeps is let go at 12, and not handed over.
-static MOMENTS: [(usize, Step); 24] = [
-    (0, Step::Register(0)),
-    (1, Step::Register(1)),
+static MOMENTS: [(usize, Step); 20] = [
     (0, Step::Acquire(SINGLE)),
     (1, Step::SleepFor(SINGLE)),
     (0, Step::AwaitLine(SINGLE, 1)),
@@ -115,13 +105,12 @@ static MOMENTS: [(usize, Step); 24] = [
     (0, Step::AwaitLine(COND % BUCKETS, 1)),
     (0, Step::Unlock(12, Released::Woke)),
     (1, Step::Unlock(0, Released::Quiet)),
-    (0, Step::Leave),
-    (1, Step::Leave),
 ];
 
 #[test]
 fn permits_and_their_moments(rt: HostRuntime) {
-    on_conds(&rt, rt.alloc(), 2, &MOMENTS, (1, 0));
+    let parts = [come(2), &MOMENTS, leave(2)];
+    on_conds(&rt, rt.alloc(), 2, &parts, (1, 0));
 }
 
 /// Shows that the semaphore, of which two passes hold a permit each, opened with two at least. It changes nothing.

@@ -6,9 +6,8 @@ ghost use Rattle.lot_sync.specs.Opened.{IsNamed};
 use crate::asserts::{copies, equal, failed, is_so};
 use crate::counts::{Count, Gathered, end, free, try_own, word};
 use crate::many::is_refused;
-use crate::schedules::{Schedule, follow, try_start};
+use crate::schedules::{Schedule, come, follow, leave, on_conds, on_lot, try_start};
 use crate::steps::{Memory, Step, may_be_refused};
-use crate::waits::on_conds;
 use lot_sync::{Lot, LotName, OpenFault, Opened, Pass, RegisterFault, Released};
 use std::alloc::Global;
 use std::marker::Brand;
@@ -17,34 +16,30 @@ use std::sync::Wait;
 use std::test::*;
 use std::thread::Threads;
 
-/// Rows of locks alone, on a lot for so many threads.
-pub(crate) fn on_locks<T: Threads + Wait + Sync + Abort>(
+/// Parts of rows of locks alone, on a lot for so many threads.
+fn on_locks<T: Threads + Wait + Sync + Abort>(
     rt: &T,
     alloc: Global,
     threads: usize,
-    rows: &[(usize, Step)],
+    parts: &[&[(usize, Step)]],
 ) {
-    on_conds(rt, alloc, threads, rows, (0, 0));
+    on_conds(rt, alloc, threads, parts, (0, 0));
 }
 
-static TRIED: [(usize, Step); 7] = [
-    (0, Step::Register(0)),
+static TRIED: [(usize, Step); 5] = [
     (0, Step::Word(0, 0)),
     (0, Step::TryLock(0, true)),
     (0, Step::Word(0, 1)),
     (0, Step::UnlockUnparked(true)),
     (0, Step::Word(0, 0)),
-    (0, Step::Leave),
 ];
 
 #[test]
 fn try_lock_and_unlock_unparked_succeed(rt: HostRuntime) {
-    on_locks(&rt, rt.alloc(), 3, &TRIED);
+    on_locks(&rt, rt.alloc(), 3, &[come(1), &TRIED, leave(1)]);
 }
 
-static QUIET: [(usize, Step); 9] = [
-    (0, Step::Register(0)),
-    (1, Step::Register(1)),
+static QUIET: [(usize, Step); 7] = [
     (0, Step::Lock(0)),
     (1, Step::TryLock(0, false)),
     (0, Step::Word(0, 1)),
@@ -56,33 +51,39 @@ static QUIET: [(usize, Step); 9] = [
 
 #[test]
 fn quiet(rt: HostRuntime) {
-    on_locks(&rt, rt.alloc(), 3, &QUIET);
+    on_locks(&rt, rt.alloc(), 3, &[come(2), &QUIET]);
 }
 
-static ASKED_FOR_NOTHING: [(usize, Step); 4] = [
-    (0, Step::Register(0)),
+static ASKED_FOR_NOTHING: [(usize, Step); 2] = [
     (0, Step::Lock(0)),
     (0, Step::UnlockAsking(5, 0, Released::Quiet)),
-    (0, Step::Leave),
 ];
 
 #[test]
 fn a_quiet_unlock_asks_for_no_moment(rt: HostRuntime) {
-    on_locks(&rt, rt.alloc(), 3, &ASKED_FOR_NOTHING);
+    on_locks(&rt, rt.alloc(), 3, &[come(1), &ASKED_FOR_NOTHING, leave(1)]);
 }
 
-/// The second thread sleeps on the lock of the first, which hands it over by this step. Until the new owner lets it go,
-/// its parked bit stays.
-fn handed_by(step: Step) -> [(usize, Step); 15] {
-    [
-        (0, Step::Register(0)),
-        (0, Step::Lock(0)),
-        (1, Step::Register(1)),
-        (1, Step::Sleep(0)),
-        (0, Step::AwaitLine(0, 1)),
-        (0, Step::Word(0, 3)),
-        (0, Step::UnlockUnparked(false)),
-        (0, Step::Word(0, 3)),
+/// The second thread sleeps on the lock of the first.
+static A_SLEEPER: [(usize, Step); 5] = [
+    (0, Step::Register(0)),
+    (0, Step::Lock(0)),
+    (1, Step::Register(1)),
+    (1, Step::Sleep(0)),
+    (0, Step::AwaitLine(0, 1)),
+];
+
+/// The first finds its lock parked, and does not let it go past the sleeper.
+static FOUND_PARKED: [(usize, Step); 3] = [
+    (0, Step::Word(0, 3)),
+    (0, Step::UnlockUnparked(false)),
+    (0, Step::Word(0, 3)),
+];
+
+/// The first thread hands its lock over to a sleeper by this step. Until the new owner lets it go, its parked bit
+/// stays.
+fn hand_over<T: Threads + Wait + Sync + Abort>(rt: &T, alloc: Global, step: Step) {
+    let handed = [
         (0, step),
         (0, Step::Word(0, 3)),
         (0, Step::Line(0, 0)),
@@ -90,38 +91,28 @@ fn handed_by(step: Step) -> [(usize, Step); 15] {
         (1, Step::Word(0, 0)),
         (1, Step::Leave),
         (0, Step::Leave),
-    ]
+    ];
+    on_locks(rt, alloc, 3, &[&A_SLEEPER, &FOUND_PARKED, &handed]);
 }
 
 #[test]
 fn handoff_to_a_sleeper(rt: HostRuntime) {
-    let rows = handed_by(Step::Unlock(5, Released::Handed));
-    on_locks(&rt, rt.alloc(), 3, &rows);
+    hand_over(&rt, rt.alloc(), Step::Unlock(5, Released::Handed));
 }
 
 #[test]
 fn an_unlock_of_a_parked_lock_asks_for_the_moment_once(rt: HostRuntime) {
-    let rows = handed_by(Step::UnlockAsking(5, 1, Released::Handed));
-    on_locks(&rt, rt.alloc(), 3, &rows);
+    hand_over(&rt, rt.alloc(), Step::UnlockAsking(5, 1, Released::Handed));
 }
 
 #[test]
 fn a_fair_unlock_hands_over_at_any_moment(rt: HostRuntime) {
-    let rows = handed_by(Step::UnlockFairly(Released::Handed));
-    on_locks(&rt, rt.alloc(), 3, &rows);
+    hand_over(&rt, rt.alloc(), Step::UnlockFairly(Released::Handed));
 }
 
 /// A release at moment 0 is not fair: with nobody left in the queue it clears the parked bit, and the sleeper gets the
 /// lock by itself.
-static BARGING: [(usize, Step); 14] = [
-    (0, Step::Register(0)),
-    (0, Step::Lock(0)),
-    (1, Step::Register(1)),
-    (1, Step::Sleep(0)),
-    (0, Step::AwaitLine(0, 1)),
-    (0, Step::Word(0, 3)),
-    (0, Step::UnlockUnparked(false)),
-    (0, Step::Word(0, 3)),
+static BARGING: [(usize, Step); 6] = [
     (0, Step::Unlock(0, Released::Woke)),
     (0, Step::Line(0, 0)),
     (1, Step::Unlock(12, Released::Quiet)),
@@ -132,43 +123,40 @@ static BARGING: [(usize, Step); 14] = [
 
 #[test]
 fn a_barging_opportunity_wakes(rt: HostRuntime) {
-    on_locks(&rt, rt.alloc(), 3, &BARGING);
+    on_locks(&rt, rt.alloc(), 3, &[&A_SLEEPER, &FOUND_PARKED, &BARGING]);
 }
 
 /// The first thread hands its lock over at moment 5 with word 7, and sleeps on it then. The next fair moment is 12: of
 /// a release at this moment this becomes.
-fn after_a_handoff(now: u64, released: Released) -> [(usize, Step); 12] {
-    [
-        (0, Step::Register(0)),
-        (0, Step::Lock(0)),
-        (1, Step::Register(1)),
-        (1, Step::Sleep(0)),
-        (0, Step::AwaitLine(0, 1)),
+fn release_after_a_handoff<T: Threads + Wait + Sync + Abort>(
+    rt: &T,
+    alloc: Global,
+    now: u64,
+    released: Released,
+) {
+    let handed = [
         (0, Step::Unlock(5, Released::Handed)),
         (0, Step::Sleep(0)),
         (1, Step::AwaitLine(0, 1)),
         (1, Step::Unlock(now, released)),
         (0, Step::LetGo),
-        (0, Step::Leave),
-        (1, Step::Leave),
-    ]
+    ];
+    on_locks(rt, alloc, 3, &[&A_SLEEPER, &handed, leave(2)]);
 }
 
 #[test]
 fn a_release_at_the_next_fair_moment_wakes(rt: HostRuntime) {
-    let rows = after_a_handoff(12, Released::Woke);
-    on_locks(&rt, rt.alloc(), 3, &rows);
+    release_after_a_handoff(&rt, rt.alloc(), 12, Released::Woke);
 }
 
 #[test]
 fn a_release_past_the_next_fair_moment_hands_over(rt: HostRuntime) {
-    let rows = after_a_handoff(13, Released::Handed);
-    on_locks(&rt, rt.alloc(), 3, &rows);
+    release_after_a_handoff(&rt, rt.alloc(), 13, Released::Handed);
 }
 
 /// Locks 1 and 13 share a bucket of a table of 12, in which three threads sleep, the second on lock 1. The fifth
 /// registration takes the bucket apart, and each line is as it was.
-static GROWTH: [(usize, Step); 27] = [
+static GROWTH: [(usize, Step); 23] = [
     (0, Step::Register(0)),
     (0, Step::Lock(13)),
     (0, Step::Lock(1)),
@@ -192,27 +180,29 @@ static GROWTH: [(usize, Step); 27] = [
     (3, Step::Unlock(0, Released::Quiet)),
     (0, Step::Unlock(0, Released::Woke)),
     (2, Step::Unlock(0, Released::Quiet)),
-    (0, Step::Leave),
-    (1, Step::Leave),
-    (2, Step::Leave),
-    (3, Step::Leave),
 ];
 
 #[test]
 fn the_fifth_registration_grows_past_sleepers(rt: HostRuntime) {
-    on_locks(&rt, rt.alloc(), 5, &GROWTH);
+    on_locks(&rt, rt.alloc(), 5, &[&GROWTH, leave(4)]);
+}
+
+/// Two threads sleep on the lock of the first. The first of them is held at the gate, and goes to sleep so many times.
+fn two_sleepers(sleeps: u64) -> [(usize, Step); 8] {
+    [
+        (0, Step::Register(0)),
+        (0, Step::Lock(0)),
+        (1, Step::Register(1)),
+        (1, Step::SleepAtGate(0, sleeps)),
+        (0, Step::AwaitLine(0, 1)),
+        (2, Step::Register(2)),
+        (2, Step::Sleep(0)),
+        (0, Step::AwaitLine(0, 2)),
+    ]
 }
 
 /// The lock is handed over, and the fifth registration makes the table grow before the new owner knows.
-static HANDED_BEFORE_GROWTH: [(usize, Step); 25] = [
-    (0, Step::Register(0)),
-    (0, Step::Lock(0)),
-    (1, Step::Register(1)),
-    (1, Step::SleepAtGate(0, 1)),
-    (0, Step::AwaitLine(0, 1)),
-    (2, Step::Register(2)),
-    (2, Step::Sleep(0)),
-    (0, Step::AwaitLine(0, 2)),
+static HANDED_BEFORE_GROWTH: [(usize, Step); 12] = [
     (0, Step::UnlockFairly(Released::Handed)),
     (3, Step::Register(3)),
     (0, Step::Size(12)),
@@ -225,30 +215,22 @@ static HANDED_BEFORE_GROWTH: [(usize, Step); 25] = [
     (1, Step::Line(0, 1)),
     (1, Step::Unlock(0, Released::Woke)),
     (2, Step::Unlock(0, Released::Quiet)),
-    (0, Step::Leave),
-    (1, Step::Leave),
-    (2, Step::Leave),
-    (3, Step::Leave),
-    (4, Step::Leave),
 ];
 
 #[test]
 fn a_handoff_outlives_a_growth(rt: HostRuntime) {
-    on_locks(&rt, rt.alloc(), 5, &HANDED_BEFORE_GROWTH);
+    on_locks(
+        &rt,
+        rt.alloc(),
+        5,
+        &[&two_sleepers(1), &HANDED_BEFORE_GROWTH, leave(5)],
+    );
 }
 
 /// The first sleeper is taken from the line, in which the second is left, and another thread gets the lock at once,
 /// though it is marked as parked. The first is behind the second then: that the line was the second's is seen by who
 /// is taken next.
-static TWO_SLEEPERS: [(usize, Step); 23] = [
-    (0, Step::Register(0)),
-    (0, Step::Lock(0)),
-    (1, Step::Register(1)),
-    (1, Step::SleepAtGate(0, 2)),
-    (0, Step::AwaitLine(0, 1)),
-    (2, Step::Register(2)),
-    (2, Step::Sleep(0)),
-    (0, Step::AwaitLine(0, 2)),
+static FIRST_TAKEN: [(usize, Step); 11] = [
     (0, Step::Unlock(0, Released::Woke)),
     (0, Step::Word(0, 2)),
     (0, Step::Line(0, 1)),
@@ -260,19 +242,20 @@ static TWO_SLEEPERS: [(usize, Step); 23] = [
     (3, Step::Unlock(0, Released::Woke)),
     (2, Step::Unlock(0, Released::Woke)),
     (1, Step::Unlock(0, Released::Quiet)),
-    (0, Step::Leave),
-    (1, Step::Leave),
-    (2, Step::Leave),
-    (3, Step::Leave),
 ];
 
 #[test]
 fn the_first_of_two_sleepers_is_taken(rt: HostRuntime) {
-    on_locks(&rt, rt.alloc(), 4, &TWO_SLEEPERS);
+    on_locks(
+        &rt,
+        rt.alloc(),
+        4,
+        &[&two_sleepers(2), &FIRST_TAKEN, leave(4)],
+    );
 }
 
 /// A thread that sleeps on another lock of the bucket keeps the parked bit of a lock whose line is empty.
-static OTHER_KEY: [(usize, Step); 24] = [
+static OTHER_KEY: [(usize, Step); 21] = [
     (0, Step::Register(0)),
     (0, Step::Lock(0)),
     (0, Step::Lock(12)),
@@ -294,46 +277,30 @@ static OTHER_KEY: [(usize, Step); 24] = [
     (0, Step::Unlock(0, Released::Woke)),
     (2, Step::Unlock(0, Released::Quiet)),
     (2, Step::Word(12, 0)),
-    (0, Step::Leave),
-    (1, Step::Leave),
-    (2, Step::Leave),
 ];
 
 #[test]
 fn other_key_in_the_bucket_keeps_parked(rt: HostRuntime) {
-    on_locks(&rt, rt.alloc(), 3, &OTHER_KEY);
+    on_locks(&rt, rt.alloc(), 3, &[&OTHER_KEY, leave(3)]);
 }
 
 /// Each of two owners raises a flag and sees the other's.
-static TWO_OWNERS: [(usize, Step); 10] = [
-    (0, Step::Register(0)),
-    (1, Step::Register(1)),
+static TWO_OWNERS: [(usize, Step); 6] = [
     (0, Step::Lock(0)),
     (1, Step::Lock(1)),
     (0, Step::Meet),
     (1, Step::Meet),
     (0, Step::Unlock(0, Released::Quiet)),
     (1, Step::Unlock(0, Released::Quiet)),
-    (0, Step::Leave),
-    (1, Step::Leave),
 ];
 
 #[test]
 fn two_owners_run_at_once(rt: HostRuntime) {
-    on_locks(&rt, rt.alloc(), 3, &TWO_OWNERS);
+    on_locks(&rt, rt.alloc(), 3, &[come(2), &TWO_OWNERS, leave(2)]);
 }
 
-static REGISTRATION: [(usize, Step); 14] = [
-    (0, Step::Register(0)),
-    (1, Step::Register(1)),
-    (2, Step::Register(2)),
-    (0, Step::Full),
-    (1, Step::Leave),
-    (0, Step::Leave),
-    (2, Step::Leave),
-    (0, Step::Register(0)),
-    (1, Step::Register(1)),
-    (2, Step::Register(2)),
+/// All passes are out. Three threads leave, the second first.
+static FULL: [(usize, Step); 4] = [
     (0, Step::Full),
     (1, Step::Leave),
     (0, Step::Leave),
@@ -342,16 +309,11 @@ static REGISTRATION: [(usize, Step); 14] = [
 
 #[test]
 fn passes_are_given_least_number_first(rt: HostRuntime) {
-    on_locks(&rt, rt.alloc(), 3, &REGISTRATION);
+    on_locks(&rt, rt.alloc(), 3, &[come(3), &FULL, come(3), &FULL]);
 }
 
 /// The fifth registration makes the table grow past a sleeper, which is served then.
-static GROWTH_PAST_ONE: [(usize, Step); 20] = [
-    (0, Step::Register(0)),
-    (0, Step::Lock(0)),
-    (1, Step::Register(1)),
-    (1, Step::Sleep(0)),
-    (0, Step::AwaitLine(0, 1)),
+static GROWTH_PAST_ONE: [(usize, Step); 13] = [
     (2, Step::Register(2)),
     (3, Step::Register(3)),
     (0, Step::Size(12)),
@@ -365,20 +327,18 @@ static GROWTH_PAST_ONE: [(usize, Step); 20] = [
     (0, Step::Unlock(0, Released::Woke)),
     (1, Step::Raise(8)),
     (1, Step::Unlock(0, Released::Quiet)),
-    (0, Step::Leave),
-    (1, Step::Leave),
 ];
 
 /// The same, where requests may be refused, or where none is refused for nothing.
 fn grow_past_one<T: Threads + Wait + Sync + Abort>(rt: &T, alloc: Global, memory: Memory) {
-    let schedule = Schedule {
-        threads: 5,
-        rows: &GROWTH_PAST_ONE,
-        how: Gathered::Left,
-        waits: (0, 0),
+    on_lot(
+        rt,
+        alloc,
+        5,
+        &[&A_SLEEPER, &GROWTH_PAST_ONE, leave(2)],
+        (0, 0),
         memory,
-    };
-    follow(rt, alloc, schedule);
+    );
 }
 
 #[test]
@@ -393,49 +353,34 @@ fn nothing_answers_no_memory_for_nothing(rt: HostRuntime) {
 
 /// Four threads have registered, and then two at once: whichever lets the table grow, it is large enough, and no pass
 /// is left.
-static TWO_AT_ONCE: [(usize, Step); 16] = [
-    (0, Step::Register(0)),
-    (1, Step::Register(1)),
-    (2, Step::Register(2)),
-    (3, Step::Register(3)),
+static TWO_AT_ONCE: [(usize, Step); 6] = [
     (0, Step::Size(12)),
     (4, Step::RegisterBeside),
     (5, Step::RegisterBeside),
     (4, Step::EitherSize(30, 36)),
     (5, Step::EitherSize(30, 36)),
     (0, Step::Full),
-    (0, Step::Leave),
-    (1, Step::Leave),
-    (2, Step::Leave),
-    (3, Step::Leave),
-    (4, Step::Leave),
-    (5, Step::Leave),
 ];
 
 #[test]
 fn two_threads_register_at_once(rt: HostRuntime) {
-    on_locks(&rt, rt.alloc(), 6, &TWO_AT_ONCE);
+    on_locks(&rt, rt.alloc(), 6, &[come(4), &TWO_AT_ONCE, leave(6)]);
 }
 
-static WRITTEN: [(usize, Step); 13] = [
-    (0, Step::Register(0)),
-    (1, Step::Register(1)),
-    (0, Step::Lock(0)),
-    (0, Step::Raise(7)),
-    (0, Step::Unlock(0, Released::Quiet)),
-    (1, Step::Lock(0)),
-    (1, Step::Raise(8)),
-    (1, Step::Unlock(0, Released::Quiet)),
-    (0, Step::Lock(0)),
-    (0, Step::Raise(9)),
-    (0, Step::Unlock(0, Released::Quiet)),
-    (1, Step::Leave),
-    (0, Step::Leave),
-];
+/// The thread finds so many behind lock 0, and leaves one more.
+fn raised(thread: usize, found: u64) -> [(usize, Step); 3] {
+    [
+        (thread, Step::Lock(0)),
+        (thread, Step::Raise(found)),
+        (thread, Step::Unlock(0, Released::Quiet)),
+    ]
+}
 
 #[test]
 fn a_written_value_is_found(rt: HostRuntime) {
-    on_locks(&rt, rt.alloc(), 3, &WRITTEN);
+    let back = [(1, Step::Leave), (0, Step::Leave)];
+    let parts = [come(2), &raised(0, 7), &raised(1, 8), &raised(0, 9), &back];
+    on_locks(&rt, rt.alloc(), 3, &parts);
 }
 
 /// Registers all threads of a lot for so many, one after the other; no pass is left for one more.

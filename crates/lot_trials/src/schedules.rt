@@ -119,6 +119,78 @@ pub(crate) struct Schedule<'a> {
     pub(crate) memory: Memory,
 }
 
+/// The first six threads register, each when those before have.
+static COMINGS: [(usize, Step); 6] = [
+    (0, Step::Register(0)),
+    (1, Step::Register(1)),
+    (2, Step::Register(2)),
+    (3, Step::Register(3)),
+    (4, Step::Register(4)),
+    (5, Step::Register(5)),
+];
+
+/// The rows by which the first so many threads register, one after the other.
+pub(crate) fn come(threads: usize) -> &'static [(usize, Step)]
+    requires { threads ≤ 6 }
+{
+    &COMINGS[..threads]
+}
+
+/// The first six threads leave, one after the other.
+static LEAVINGS: [(usize, Step); 6] = [
+    (0, Step::Leave),
+    (1, Step::Leave),
+    (2, Step::Leave),
+    (3, Step::Leave),
+    (4, Step::Leave),
+    (5, Step::Leave),
+];
+
+/// The rows by which the first so many threads leave, one after the other.
+pub(crate) fn leave(threads: usize) -> &'static [(usize, Step)]
+    requires { threads ≤ 6 }
+{
+    &LEAVINGS[..threads]
+}
+
+/// Makes the rows, part after part, on a lot for so many threads, in which so many waits end on the first condition,
+/// and on the last.
+pub(crate) fn on_lot<T: Threads + Wait + Sync + Abort>(
+    rt: &T,
+    alloc: Global,
+    threads: usize,
+    parts: &[&[(usize, Step)]],
+    waits: (u64, u64),
+    memory: Memory,
+) {
+    let mut rows = Vec::new(alloc);
+    for part in parts {
+        if rows.extend_from_slice(part).is_err() {
+            may_be_refused(rt, memory);
+            return;
+        }
+    }
+    let schedule = Schedule {
+        threads,
+        rows: rows.as_slice(),
+        how: Gathered::Left,
+        waits,
+        memory,
+    };
+    follow(rt, alloc, schedule);
+}
+
+/// The same, where no request is refused.
+pub(crate) fn on_conds<T: Threads + Wait + Sync + Abort>(
+    rt: &T,
+    alloc: Global,
+    threads: usize,
+    parts: &[&[(usize, Step)]],
+    waits: (u64, u64),
+) {
+    on_lot(rt, alloc, threads, parts, waits, Memory::Ample);
+}
+
 /// Makes the schedule on a lot of its own, which is closed then.
 pub(crate) fn follow<T: Threads + Wait + Sync + Abort>(
     rt: &T,

@@ -1,10 +1,8 @@
 //! Threads that wait on a condition and are notified, in the running code: they wait in an order that is made by hand,
 //! and some are held before they sleep.
 
-use crate::asserts::is_so;
-use crate::counts::Gathered;
-use crate::schedules::{Schedule, follow};
-use crate::steps::{Memory, Step};
+use crate::schedules::{come, leave, on_conds};
+use crate::steps::Step;
 use lot_sync::Released;
 use std::alloc::Global;
 use std::process::Abort;
@@ -18,27 +16,9 @@ pub(crate) const COND: usize = 14;
 /// The lot's last condition, which lies in the bucket of the first where there are 12 buckets.
 const LAST: usize = 26;
 
-/// Rows on a lot for so many threads, in which so many waits end on the first condition, and on the last.
-pub(crate) fn on_conds<T: Threads + Wait + Sync + Abort>(
-    rt: &T,
-    alloc: Global,
-    threads: usize,
-    rows: &[(usize, Step)],
-    waits: (u64, u64),
-) {
-    let schedule = Schedule {
-        threads,
-        rows,
-        how: Gathered::Left,
-        waits,
-        memory: Memory::Ample,
-    };
-    follow(rt, alloc, schedule);
-}
-
 /// A thread is taken that is queued on the condition and owns its lock still: it lets the lock go, does not sleep, and
 /// gets it again.
-static TAKEN_BEFORE_ITS_SLEEP: [(usize, Step); 13] = [
+static TAKEN_BEFORE_ITS_SLEEP: [(usize, Step); 11] = [
     (0, Step::Register(0)),
     (0, Step::Lock(0)),
     (0, Step::WaitAtGate(COND)),
@@ -50,18 +30,22 @@ static TAKEN_BEFORE_ITS_SLEEP: [(usize, Step); 13] = [
     (1, Step::NotifyOne(COND, 0, false)),
     (1, Step::Word(0, 1)),
     (1, Step::OpenGate),
-    (0, Step::Leave),
-    (1, Step::Leave),
 ];
 
 #[test]
 fn notifications_are_answered(rt: HostRuntime) {
-    on_conds(&rt, rt.alloc(), 2, &TAKEN_BEFORE_ITS_SLEEP, (1, 0));
+    on_conds(
+        &rt,
+        rt.alloc(),
+        2,
+        &[&TAKEN_BEFORE_ITS_SLEEP, leave(2)],
+        (1, 0),
+    );
 }
 
 /// A wait hands the lock to the thread in its line, which takes the waiting thread from the condition's line: that one
 /// gets the lock again.
-static HANDED_BY_A_WAIT: [(usize, Step); 14] = [
+static HANDED_BY_A_WAIT: [(usize, Step); 12] = [
     (0, Step::Register(0)),
     (0, Step::Lock(0)),
     (0, Step::WaitAtGate(COND)),
@@ -74,18 +58,16 @@ static HANDED_BY_A_WAIT: [(usize, Step); 14] = [
     (1, Step::NotifyOne(COND, 0, true)),
     (1, Step::Line(COND, 0)),
     (1, Step::LetGo),
-    (0, Step::Leave),
-    (1, Step::Leave),
 ];
 
 #[test]
 fn a_wait_hands_its_lock_over(rt: HostRuntime) {
-    on_conds(&rt, rt.alloc(), 2, &HANDED_BY_A_WAIT, (1, 0));
+    on_conds(&rt, rt.alloc(), 2, &[&HANDED_BY_A_WAIT, leave(2)], (1, 0));
 }
 
 /// A thread that sleeps on the condition has let its lock go, and gets it again when it is taken. The flag is clear
 /// then.
-static LETS_GO: [(usize, Step); 16] = [
+static LETS_GO: [(usize, Step); 14] = [
     (0, Step::Register(0)),
     (0, Step::Lock(0)),
     (0, Step::Wait(COND, 5)),
@@ -100,55 +82,44 @@ static LETS_GO: [(usize, Step); 16] = [
     (1, Step::Line(COND, 0)),
     (1, Step::HasWaiters(COND, false)),
     (1, Step::NotifyOne(COND, 0, false)),
-    (0, Step::Leave),
-    (1, Step::Leave),
 ];
 
 #[test]
 fn a_wait_lets_go(rt: HostRuntime) {
-    on_conds(&rt, rt.alloc(), 2, &LETS_GO, (1, 0));
+    on_conds(&rt, rt.alloc(), 2, &[&LETS_GO, leave(2)], (1, 0));
 }
 
-/// Three threads come to wait, one after the other.
-static THREE_COME: [(usize, Step); 12] = [
-    (1, Step::Register(1)),
-    (1, Step::Lock(0)),
-    (1, Step::Wait(COND, 0)),
-    (0, Step::AwaitLine(COND, 1)),
-    (2, Step::Register(2)),
-    (2, Step::Lock(0)),
-    (2, Step::Wait(COND, 0)),
-    (0, Step::AwaitLine(COND, 2)),
-    (3, Step::Register(3)),
-    (3, Step::Lock(0)),
-    (3, Step::Wait(COND, 0)),
-    (0, Step::AwaitLine(COND, 3)),
-];
+/// The thread registers and waits on the condition. So many are in the line then.
+fn comes_to_wait(thread: usize, cond: usize, line: usize) -> [(usize, Step); 4] {
+    [
+        (thread, Step::Register(thread)),
+        (thread, Step::Lock(0)),
+        (thread, Step::Wait(cond, 0)),
+        (0, Step::AwaitLine(cond, line)),
+    ]
+}
 
-/// They leave, and so does the one that notified them.
-static FOUR_LEAVE: [(usize, Step); 4] = [
-    (0, Step::Leave),
-    (1, Step::Leave),
-    (2, Step::Leave),
-    (3, Step::Leave),
-];
-
-/// Makes the first rows; then three threads come to wait, the other rows notify all of them, and all leave.
+/// A thread registers and makes the first rows; then three come to wait, the other rows notify all of them, and all
+/// leave.
 fn on_three_waits<T: Threads + Wait + Sync + Abort>(
     rt: &T,
     alloc: Global,
-    first: &[(usize, Step)],
-    then: &[(usize, Step)],
+    first: &'static [(usize, Step)],
+    then: &'static [(usize, Step)],
 ) {
-    let mut rows = Vec::new(alloc);
-    for part in [first, THREE_COME.as_slice(), then, FOUR_LEAVE.as_slice()] {
-        is_so(rt, rows.extend_from_slice(part).is_ok(), "there is memory");
-    }
-    on_conds(rt, alloc, 4, rows.as_slice(), (3, 0));
+    let parts = [
+        come(1),
+        first,
+        &comes_to_wait(1, COND, 1),
+        &comes_to_wait(2, COND, 2),
+        &comes_to_wait(3, COND, 3),
+        then,
+        leave(4),
+    ];
+    on_conds(rt, alloc, 4, &parts, (3, 0));
 }
 
-static NOBODY_WAITS: [(usize, Step); 4] = [
-    (0, Step::Register(0)),
+static NOBODY_WAITS: [(usize, Step); 3] = [
     (0, Step::HasWaiters(COND, false)),
     (0, Step::NotifyOne(COND, 0, false)),
     (0, Step::NotifyAll(COND, 0)),
@@ -170,9 +141,6 @@ fn waits_are_notified(rt: HostRuntime) {
     on_three_waits(&rt, rt.alloc(), &NOBODY_WAITS, &ONE_AND_ALL);
 }
 
-/// The one that notifies registers, before anybody waits.
-static ONE_COMES: [(usize, Step); 1] = [(0, Step::Register(0))];
-
 /// All are taken at once; then nobody waits.
 static ALL_AT_ONCE: [(usize, Step); 4] = [
     (0, Step::HasWaiters(COND, true)),
@@ -183,7 +151,7 @@ static ALL_AT_ONCE: [(usize, Step); 4] = [
 
 #[test]
 fn three_waits_are_notified_at_once(rt: HostRuntime) {
-    on_three_waits(&rt, rt.alloc(), &ONE_COMES, &ALL_AT_ONCE);
+    on_three_waits(&rt, rt.alloc(), &[], &ALL_AT_ONCE);
 }
 
 /// Alone in their bucket, two are taken, then the other one, then nobody.
@@ -195,31 +163,26 @@ static BY_COUNT: [(usize, Step); 3] = [
 
 #[test]
 fn waits_are_notified_by_count(rt: HostRuntime) {
-    on_three_waits(&rt, rt.alloc(), &ONE_COMES, &BY_COUNT);
+    on_three_waits(&rt, rt.alloc(), &[], &BY_COUNT);
 }
 
 /// Two conditions in one bucket with a waiting thread each: the flag stays until nobody else is in the bucket, or
 /// nobody is taken.
-static TWO_CONDITIONS: [(usize, Step); 16] = [
-    (0, Step::Register(0)),
-    (1, Step::Register(1)),
-    (1, Step::Lock(0)),
-    (1, Step::Wait(COND, 0)),
-    (0, Step::AwaitLine(COND, 1)),
-    (2, Step::Register(2)),
-    (2, Step::Lock(0)),
-    (2, Step::Wait(LAST, 0)),
-    (0, Step::AwaitLine(LAST, 1)),
+static TWO_CONDITIONS: [(usize, Step); 4] = [
     (0, Step::Size(12)),
     (0, Step::NotifySome(LAST, 4, (1, true))),
     (0, Step::NotifySome(LAST, 4, (0, false))),
     (0, Step::NotifySome(COND, 256, (1, false))),
-    (0, Step::Leave),
-    (1, Step::Leave),
-    (2, Step::Leave),
 ];
 
 #[test]
 fn a_flag_stays_while_others_wait(rt: HostRuntime) {
-    on_conds(&rt, rt.alloc(), 4, &TWO_CONDITIONS, (1, 1));
+    let parts = [
+        come(1),
+        &comes_to_wait(1, COND, 1),
+        &comes_to_wait(2, LAST, 1),
+        &TWO_CONDITIONS,
+        leave(3),
+    ];
+    on_conds(&rt, rt.alloc(), 4, &parts, (1, 1));
 }
