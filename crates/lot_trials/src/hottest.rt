@@ -8,57 +8,44 @@ use std::sync::Wait;
 use std::thread::Threads;
 
 /// Where one thread counts, or none does, nobody parks: no lock is told of.
-static ALONE: [(&str, &[&str], &str); 5] = [
+static ALONE: [(&str, &str, &str); 5] = [
     (
         "one thread",
-        &["contend", "1", "4", "10", "7"],
+        "contend 1 4 10 7",
         "locks 4 total 10\nsum 10\n",
     ),
     (
         "one lock",
-        &["contend", "1", "1", "100", "18446744073709551615"],
+        "contend 1 1 100 18446744073709551615",
         "locks 1 total 100\nsum 100\n",
     ),
     (
         "most locks",
-        &["contend", "1", "1024", "10", "0"],
+        "contend 1 1024 10 0",
         "locks 1024 total 10\nsum 10\n",
     ),
-    (
-        "no rounds",
-        &["contend", "2", "1", "0", "0"],
-        "locks 1 total 0\nsum 0\n",
-    ),
+    ("no rounds", "contend 2 1 0 0", "locks 1 total 0\nsum 0\n"),
     (
         "no rounds of most threads",
-        &["contend", "256", "3", "0", "1"],
+        "contend 256 3 0 1",
         "locks 3 total 0\nsum 0\n",
     ),
 ];
 
-static WRONG: [(&str, &[&str]); 10] = [
-    ("contend of no threads", &["contend", "0", "1", "1", "1"]),
-    ("contend of 257 threads", &["contend", "257", "1", "1", "1"]),
-    ("contend of no locks", &["contend", "1", "0", "1", "1"]),
-    ("contend of 1025 locks", &["contend", "1", "1025", "1", "1"]),
-    (
-        "contend of 10001 rounds",
-        &["contend", "1", "1", "10001", "1"],
-    ),
+static WRONG: [(&str, &str); 10] = [
+    ("contend of no threads", "contend 0 1 1 1"),
+    ("contend of 257 threads", "contend 257 1 1 1"),
+    ("contend of no locks", "contend 1 0 1 1"),
+    ("contend of 1025 locks", "contend 1 1025 1 1"),
+    ("contend of 10001 rounds", "contend 1 1 10001 1"),
     (
         "contend of a seed of 2^64",
-        &["contend", "1", "1", "1", "18446744073709551616"],
+        "contend 1 1 1 18446744073709551616",
     ),
-    (
-        "contend with a leading zero",
-        &["contend", "1", "01", "1", "1"],
-    ),
-    ("contend with a letter", &["contend", "1", "1", "1x", "1"]),
-    ("contend without a seed", &["contend", "1", "1", "1"]),
-    (
-        "contend with a word too many",
-        &["contend", "1", "1", "1", "1", "1"],
-    ),
+    ("contend with a leading zero", "contend 1 01 1 1"),
+    ("contend with a letter", "contend 1 1 1x 1"),
+    ("contend without a seed", "contend 1 1 1"),
+    ("contend with a word too many", "contend 1 1 1 1 1"),
 ];
 
 #[test]
@@ -68,25 +55,25 @@ fn nobody_waits_where_one_thread_counts(rt: HostRuntime) {
 }
 
 /// Several threads, and what is counted of them.
-static SEVERAL: [(&str, &[&str], &str); 4] = [
+static SEVERAL: [(&str, &str, &str); 4] = [
     (
         "two threads on one lock",
-        &["contend", "2", "1", "200", "7"],
+        "contend 2 1 200 7",
         "locks 1 total 400\nsum 400\n",
     ),
     (
         "eight threads on four locks",
-        &["contend", "8", "4", "100", "1"],
+        "contend 8 4 100 1",
         "locks 4 total 800\nsum 800\n",
     ),
     (
         "four threads on sixteen locks",
-        &["contend", "4", "16", "200", "7"],
+        "contend 4 16 200 7",
         "locks 16 total 800\nsum 800\n",
     ),
     (
         "64 threads on most locks",
-        &["contend", "64", "1024", "10", "9"],
+        "contend 64 1024 10 9",
         "locks 1024 total 640\nsum 640\n",
     ),
 ];
@@ -129,15 +116,15 @@ fn are_in_order(rt: &impl Abort, text: &str, name: &str) {
     is_so(rt, told <= MOST_TOLD, name);
 }
 
-/// Runs the words: what is counted is printed first, and then a line for each of the hottest locks.
+/// Runs the line: what is counted is printed first, and then a line for each of the hottest locks.
 fn check_hot<R: Threads + Wait + Sync + Abort>(
     rt: &R,
     alloc: Global,
     name: &str,
-    words: &[&str],
+    line: &str,
     head: &str,
 ) {
-    let out = printed(rt, alloc, name, words);
+    let out = printed(rt, alloc, name, line);
     let Ok(text) = str::from_utf8(out.as_slice()) else {
         failed(rt, "no text was printed")
     };
@@ -149,7 +136,7 @@ fn check_hot<R: Threads + Wait + Sync + Abort>(
 
 #[test]
 fn the_hottest_locks_are_told_first(rt: HostRuntime) {
-    for (name, words, head) in &SEVERAL {
-        check_hot(&rt, rt.alloc(), name, words, head);
+    for (name, line, head) in &SEVERAL {
+        check_hot(&rt, rt.alloc(), name, line, head);
     }
 }

@@ -234,55 +234,45 @@ fn a_sleeper_on_the_last_of_a_million_keys_is_handed_its_lock(rt: HostRuntime) {
     }
 }
 
-static MANIES: [(&str, &[&str], &str); 6] = [
+static MANIES: [(&str, &str, &str); 6] = [
     (
         "two threads on one key",
-        &["many", "2", "1", "1000", "7"],
+        "many 2 1 1000 7",
         "keys 1 total 2000\nsum 2000\n",
     ),
-    (
-        "no rounds",
-        &["many", "1", "1", "0", "0"],
-        "keys 1 total 0\nsum 0\n",
-    ),
+    ("no rounds", "many 1 1 0 0", "keys 1 total 0\nsum 0\n"),
     (
         "a key more than a script may have",
-        &["many", "4", "1025", "100", "18446744073709551615"],
+        "many 4 1025 100 18446744073709551615",
         "keys 1025 total 400\nsum 400\n",
     ),
     (
         "64 threads on 13 keys",
-        &["many", "64", "13", "100", "7"],
+        "many 64 13 100 7",
         "keys 13 total 6400\nsum 6400\n",
     ),
     (
         "256 threads",
-        &["many", "256", "100000", "10", "9"],
+        "many 256 100000 10 9",
         "keys 100000 total 2560\nsum 2560\n",
     ),
     (
         "a million keys",
-        &["many", "4", "1000000", "1000", "7"],
+        "many 4 1000000 1000 7",
         "keys 1000000 total 4000\nsum 4000\n",
     ),
 ];
 
-static WRONG_MANIES: [(&str, &[&str]); 9] = [
-    ("no keys", &["many", "1", "0", "1", "1"]),
-    ("10000001 keys", &["many", "1", "10000001", "1", "1"]),
-    ("keys with a leading zero", &["many", "1", "01", "1", "1"]),
-    ("many of no threads", &["many", "0", "1", "1", "1"]),
-    ("many of 257 threads", &["many", "257", "1", "1", "1"]),
-    ("many of 10001 rounds", &["many", "1", "1", "10001", "1"]),
-    (
-        "many of a seed of 2^64",
-        &["many", "1", "1", "1", "18446744073709551616"],
-    ),
-    ("many without a seed", &["many", "1", "1", "1"]),
-    (
-        "many with a word too many",
-        &["many", "1", "1", "1", "1", "1"],
-    ),
+static WRONG_MANIES: [(&str, &str); 9] = [
+    ("no keys", "many 1 0 1 1"),
+    ("10000001 keys", "many 1 10000001 1 1"),
+    ("keys with a leading zero", "many 1 01 1 1"),
+    ("many of no threads", "many 0 1 1 1"),
+    ("many of 257 threads", "many 257 1 1 1"),
+    ("many of 10001 rounds", "many 1 1 10001 1"),
+    ("many of a seed of 2^64", "many 1 1 1 18446744073709551616"),
+    ("many without a seed", "many 1 1 1"),
+    ("many with a word too many", "many 1 1 1 1 1"),
 ];
 
 #[test]

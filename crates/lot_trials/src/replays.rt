@@ -1,7 +1,7 @@
 //! What `replay` of the program prints of scripts, and which files it can't read.
 
 use crate::asserts::equal_in;
-use crate::texts::{check, check_file, check_scripts, long_script, push_lines};
+use crate::texts::{check, check_file, check_refused, check_scripts, long_script, push_lines};
 use lot_load::run_command;
 use std::alloc::{AllocError, Global};
 use std::process::Abort;
@@ -9,187 +9,138 @@ use std::sync::Wait;
 use std::test::Fail;
 use std::thread::Threads;
 
-/// A script, what is printed of it, the fault, and the status.
-static REPLAYS: [(&str, &str, &str, &str, u8); 32] = [
+/// A script, and what is printed of it.
+static REPLAYS: [(&str, &str, &str); 13] = [
     (
         "opening",
         "open 1 1 0\n",
         "lock 0 word 0 owner - line -\nthread 0 calm\n",
-        "",
-        0,
     ),
     (
         "handoff",
         "open 2 1 0\ntake 0 0\ntake 1 0\nmark 1 0\npark 1 0\npass 0 0 1 0\n",
         "lock 0 word 3 owner 1 line -\nthread 0 calm\nthread 1 calm\n",
-        "",
-        0,
     ),
     (
         "handoff_then_release",
         "open 2 1 0\ntake 0 0\ntake 1 0\nmark 1 0\npark 1 0\npass 0 0 1 0\npass 1 0 0 0\n",
         "lock 0 word 0 owner - line -\nthread 0 calm\nthread 1 calm\n",
-        "",
-        0,
     ),
     (
         "barging_past_a_sleeper",
         "open 4 1 0\ntake 0 0\ntake 1 0\nmark 1 0\npark 1 0\ntake 2 0\npark 2 0\npass 0 0 0 1\ntake 3 0\n",
         "lock 0 word 3 owner 3 line 2\nthread 0 calm\nthread 1 wants 0\nthread 2 wants 0\nthread 3 calm\n",
-        "",
-        0,
-    ),
-    (
-        "more_has_to_be_said",
-        "open 4 1 0\ntake 0 0\ntake 1 0\nmark 1 0\npark 1 0\ntake 2 0\npark 2 0\npass 0 0 0 0\ntake 3 0\n",
-        "",
-        "event 7 refused\n",
-        2,
     ),
     (
         "notified_before_it_sleeps",
         "open 2 1 1\ntake 0 0\nenlist 0 1 0\ncall 1 1 0\nfree 0 0\ntake 0 0\n",
         "lock 0 word 1 owner 0 line -\ncond 1 flag 0 line -\nthread 0 calm\nthread 1 calm\n",
-        "",
-        0,
     ),
     (
         "enlisted_while_the_flag_was_lowered",
         "open 3 1 1\nlower 1 1\ntake 2 0\nenlist 2 1 0\nsweep 1 1\n",
         "lock 0 word 1 owner 2 line -\ncond 1 flag 1 line -\nthread 0 calm\nthread 1 calm\nthread 2 bed 1 0\n",
-        "",
-        0,
     ),
     (
         "the_next_call_clears_the_flag",
         "open 3 1 1\nlower 1 1\ntake 2 0\nenlist 2 1 0\nsweep 1 1\ncall 0 1 0\n",
         "lock 0 word 1 owner 2 line -\ncond 1 flag 0 line -\nthread 0 calm\nthread 1 calm\nthread 2 bed 1 0\n",
-        "",
-        0,
     ),
     (
         "marked_and_released_meanwhile",
         "open 3 1 0\ntake 0 0\ntake 1 0\nmark 1 0\npass 0 0 0 0\ntake 2 0\npark 1 0\n",
         "lock 0 word 1 owner 2 line -\nthread 0 calm\nthread 1 wants 0\nthread 2 calm\n",
-        "",
-        0,
     ),
     (
         "three_rest",
         "open 4 1 1\ntake 0 0\nenlist 0 1 0\nfree 0 0\ntake 1 0\nenlist 1 1 0\nfree 1 0\ntake 2 0\nenlist 2 1 0\nfree 2 0\n",
         "lock 0 word 0 owner - line -\ncond 1 flag 1 line 0,1,2\nthread 0 rest 1 0\nthread 1 rest 1 0\nthread 2 rest 1 0\nthread 3 calm\n",
-        "",
-        0,
     ),
     (
         "all_are_swept",
         "open 4 1 1\ntake 0 0\nenlist 0 1 0\nfree 0 0\ntake 1 0\nenlist 1 1 0\nfree 1 0\ntake 2 0\nenlist 2 1 0\nfree 2 0\nlower 3 1\nsweep 3 1\n",
         "lock 0 word 0 owner - line -\ncond 1 flag 0 line -\nthread 0 rest 1 0\nthread 1 rest 1 0\nthread 2 rest 1 0\nthread 3 calm\n",
-        "",
-        0,
+    ),
+    (
+        "between_lower_and_sweep",
+        "open 4 1 1\ntake 0 0\nenlist 0 1 0\nfree 0 0\ntake 1 0\nenlist 1 1 0\nfree 1 0\ntake 2 0\nenlist 2 1 0\nfree 2 0\nlower 3 1\n",
+        "lock 0 word 0 owner - line -\ncond 1 flag 0 line 0,1,2\nthread 0 rest 1 0\nthread 1 rest 1 0\nthread 2 rest 1 0\nthread 3 sweeps 1\n",
+    ),
+    (
+        "wait_notified_by_the_next_owner",
+        "open 2 1 1\ntake 0 0\nenlist 0 1 0\ntake 1 0\nmark 1 0\npark 1 0\npass 0 0 1 0\ncall 1 1 0\npass 1 0 0 0\ntake 0 0\n",
+        "lock 0 word 1 owner 0 line -\ncond 1 flag 0 line -\nthread 0 calm\nthread 1 calm\n",
+    ),
+    (
+        "sweep_takes_who_came_after_the_lowering",
+        "open 3 1 1\ntake 0 0\nenlist 0 1 0\nfree 0 0\nlower 1 1\ntake 2 0\nenlist 2 1 0\nfree 2 0\nsweep 1 1\ncall 1 1 0\n",
+        "lock 0 word 0 owner - line -\ncond 1 flag 0 line -\nthread 0 rest 1 0\nthread 1 calm\nthread 2 rest 1 0\n",
+    ),
+];
+
+/// A script that is refused, the fault, and the status.
+static REFUSED_REPLAYS: [(&str, &str, &str, u8); 19] = [
+    (
+        "more_has_to_be_said",
+        "open 4 1 0\ntake 0 0\ntake 1 0\nmark 1 0\npark 1 0\ntake 2 0\npark 2 0\npass 0 0 0 0\ntake 3 0\n",
+        "event 7 refused\n",
+        2,
     ),
     (
         "free_without_the_lock",
         "open 1 1 0\nfree 0 0\n",
-        "",
         "event 1 refused\n",
         2,
     ),
     (
         "two_spaces",
         "open 1 1 0\ntry 0  0\n",
-        "",
         "bad script line 2\n",
         1,
     ),
-    ("too_many_threads", "open 257 1 0\n", "", "bad limits\n", 1),
-    ("empty_file", "", "", "bad script line 1\n", 1),
-    (
-        "between_lower_and_sweep",
-        "open 4 1 1\ntake 0 0\nenlist 0 1 0\nfree 0 0\ntake 1 0\nenlist 1 1 0\nfree 1 0\ntake 2 0\nenlist 2 1 0\nfree 2 0\nlower 3 1\n",
-        "lock 0 word 0 owner - line -\ncond 1 flag 0 line 0,1,2\nthread 0 rest 1 0\nthread 1 rest 1 0\nthread 2 rest 1 0\nthread 3 sweeps 1\n",
-        "",
-        0,
-    ),
-    (
-        "wait_notified_by_the_next_owner",
-        "open 2 1 1\ntake 0 0\nenlist 0 1 0\ntake 1 0\nmark 1 0\npark 1 0\npass 0 0 1 0\ncall 1 1 0\npass 1 0 0 0\ntake 0 0\n",
-        "lock 0 word 1 owner 0 line -\ncond 1 flag 0 line -\nthread 0 calm\nthread 1 calm\n",
-        "",
-        0,
-    ),
-    (
-        "sweep_takes_who_came_after_the_lowering",
-        "open 3 1 1\ntake 0 0\nenlist 0 1 0\nfree 0 0\nlower 1 1\ntake 2 0\nenlist 2 1 0\nfree 2 0\nsweep 1 1\ncall 1 1 0\n",
-        "lock 0 word 0 owner - line -\ncond 1 flag 0 line -\nthread 0 rest 1 0\nthread 1 calm\nthread 2 rest 1 0\n",
-        "",
-        0,
-    ),
+    ("too_many_threads", "open 257 1 0\n", "bad limits\n", 1),
+    ("empty_file", "", "bad script line 1\n", 1),
     (
         "sweeping_thread_is_not_calm",
         "open 2 1 1\nlower 0 1\ntry 0 0\n",
-        "",
         "event 2 refused\n",
         2,
     ),
-    ("no_line_feed", "open 1 1 0", "", "bad script line 1\n", 1),
-    (
-        "leading_zero",
-        "open 01 1 0\n",
-        "",
-        "bad script line 1\n",
-        1,
-    ),
-    (
-        "five_digits",
-        "open 10000 1 0\n",
-        "",
-        "bad script line 1\n",
-        1,
-    ),
+    ("no_line_feed", "open 1 1 0", "bad script line 1\n", 1),
+    ("leading_zero", "open 01 1 0\n", "bad script line 1\n", 1),
+    ("five_digits", "open 10000 1 0\n", "bad script line 1\n", 1),
     (
         "carriage_return",
         "open 1 1 0\r\n",
-        "",
         "bad script line 1\n",
         1,
     ),
     (
         "flag_of_two",
         "open 1 1 0\npass 0 0 2 0\n",
-        "",
         "bad script line 2\n",
         1,
     ),
-    ("empty_line", "open 1 1 0\n\n", "", "bad script line 2\n", 1),
+    ("empty_line", "open 1 1 0\n\n", "bad script line 2\n", 1),
     (
         "bad_line_before_bad_limits",
         "open 257 1 0\nzzz\n",
-        "",
         "bad script line 2\n",
         1,
     ),
-    ("no_threads", "open 0 1 0\n", "", "bad limits\n", 1),
-    ("no_locks", "open 1 0 5\n", "", "bad limits\n", 1),
-    (
-        "far_too_many_threads",
-        "open 9999 1 0\n",
-        "",
-        "bad limits\n",
-        1,
-    ),
-    ("too_many_keys", "open 64 2 1023\n", "", "bad limits\n", 1),
+    ("no_threads", "open 0 1 0\n", "bad limits\n", 1),
+    ("no_locks", "open 1 0 5\n", "bad limits\n", 1),
+    ("far_too_many_threads", "open 9999 1 0\n", "bad limits\n", 1),
+    ("too_many_keys", "open 64 2 1023\n", "bad limits\n", 1),
     (
         "thread_out_of_range",
         "open 1 1 0\ntry 1 0\n",
-        "",
         "event 1 refused\n",
         2,
     ),
     (
         "key_out_of_range",
         "open 1 1 0\ntry 0 1\n",
-        "",
         "event 1 refused\n",
         2,
     ),
@@ -198,35 +149,33 @@ static REPLAYS: [(&str, &str, &str, &str, u8); 32] = [
 #[test]
 fn scripts_are_replayed(rt: HostRuntime) {
     check_scripts(&rt, rt.alloc(), "replay", &REPLAYS);
+    check_refused(&rt, rt.alloc(), "replay", &REFUSED_REPLAYS);
 }
 
 /// The same with notifications by count.
-static SOME: [(&str, &str, &str, &str, u8); 4] = [
+static SOME: [(&str, &str, &str); 2] = [
     (
         "two_are_notified",
         "open 4 1 1\ntake 0 0\nenlist 0 1 0\nfree 0 0\ntake 1 0\nenlist 1 1 0\nfree 1 0\ntake 2 0\nenlist 2 1 0\nfree 2 0\nsome 3 1 2 1\n",
         "lock 0 word 0 owner - line -\ncond 1 flag 1 line 2\nthread 0 rest 1 0\nthread 1 rest 1 0\nthread 2 rest 1 0\nthread 3 calm\n",
-        "",
-        0,
     ),
     (
         "the_third_is_notified_too",
         "open 4 1 1\ntake 0 0\nenlist 0 1 0\nfree 0 0\ntake 1 0\nenlist 1 1 0\nfree 1 0\ntake 2 0\nenlist 2 1 0\nfree 2 0\nsome 3 1 2 1\nsome 3 1 2 0\n",
         "lock 0 word 0 owner - line -\ncond 1 flag 0 line -\nthread 0 rest 1 0\nthread 1 rest 1 0\nthread 2 rest 1 0\nthread 3 calm\n",
-        "",
-        0,
     ),
+];
+
+static REFUSED_SOME: [(&str, &str, &str, u8); 2] = [
     (
         "who_is_left_has_to_be_said",
         "open 4 1 1\ntake 0 0\nenlist 0 1 0\nfree 0 0\ntake 1 0\nenlist 1 1 0\nfree 1 0\ntake 2 0\nenlist 2 1 0\nfree 2 0\nsome 3 1 2 0\n",
-        "",
         "event 10 refused\n",
         2,
     ),
     (
         "nobody_is_no_count",
         "open 4 1 1\ntake 0 0\nenlist 0 1 0\nfree 0 0\ntake 1 0\nenlist 1 1 0\nfree 1 0\ntake 2 0\nenlist 2 1 0\nfree 2 0\nsome 3 1 0 1\n",
-        "",
         "event 10 refused\n",
         2,
     ),
@@ -235,36 +184,34 @@ static SOME: [(&str, &str, &str, &str, u8); 4] = [
 #[test]
 fn notifications_by_count_are_replayed(rt: HostRuntime) {
     check_scripts(&rt, rt.alloc(), "replay", &SOME);
+    check_refused(&rt, rt.alloc(), "replay", &REFUSED_SOME);
 }
 
 /// The same with semaphores.
-static PERMITS: [(&str, &str, &str, &str, u8); 3] = [
+static PERMITS: [(&str, &str, &str); 2] = [
     (
         "permit_passed_on",
         "open 2 1 0 1\nstake 0 1\nstake 1 1\nsmark 1 1\nspark 1 1\nspass 0 1 0\n",
         "lock 0 word 0 owner - line -\nsem 1 left 1 out 0 parked 0 line -\nthread 0 calm\nthread 1 seeks 1\n",
-        "",
-        0,
     ),
     (
         "permit_taken_then",
         "open 2 1 0 1\nstake 0 1\nstake 1 1\nsmark 1 1\nspark 1 1\nspass 0 1 0\nstake 1 1\n",
         "lock 0 word 0 owner - line -\nsem 1 left 0 out 1 parked 0 line -\nthread 0 calm\nthread 1 calm\n",
-        "",
-        0,
-    ),
-    (
-        "permit_that_is_not_out",
-        "open 1 1 0 0\nsfree 0 1\n",
-        "",
-        "event 1 refused\n",
-        2,
     ),
 ];
+
+static REFUSED_PERMITS: [(&str, &str, &str, u8); 1] = [(
+    "permit_that_is_not_out",
+    "open 1 1 0 0\nsfree 0 1\n",
+    "event 1 refused\n",
+    2,
+)];
 
 #[test]
 fn permits_are_replayed(rt: HostRuntime) {
     check_scripts(&rt, rt.alloc(), "replay", &PERMITS);
+    check_refused(&rt, rt.alloc(), "replay", &REFUSED_PERMITS);
 }
 
 /// Replays a script of so many lines after the first.

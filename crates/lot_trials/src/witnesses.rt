@@ -1,96 +1,78 @@
 //! `lotstress witness`: its texts and statuses.
 
-use crate::texts::{check, check_file, check_scripts, long_script};
+use crate::texts::{check, check_file, check_refused, check_scripts, long_script};
 use std::alloc::Global;
 use std::process::Abort;
 use std::sync::Wait;
 use std::test::Fail;
 use std::thread::Threads;
 
-/// A witness, what is printed of it, the fault, and the status.
-static WITNESSES: [(&str, &str, &str, &str, u8); 13] = [
-    (
-        "nothing_happened",
-        "open 1 1 0\n",
-        "events 0\nwitnessed\n",
-        "",
-        0,
-    ),
+/// A witness, and what is printed of it.
+static WITNESSES: [(&str, &str, &str); 6] = [
+    ("nothing_happened", "open 1 1 0\n", "events 0\nwitnessed\n"),
     (
         "handoff",
         "open 2 1 0\ntake 0 0 true\ntake 1 0 false\nmark 1 0 done\npark 1 0 true\npass 0 0 1 0 1\n",
         "events 5\nwitnessed\n",
-        "",
-        0,
     ),
     (
         "marked_and_passed_to_nobody",
         "open 2 1 0\ntry 0 0 true\ntake 1 0 false\nmark 1 0 done\nfree 0 0 false\npass 0 0 0 0 -\npark 1 0 false\n",
         "events 6\nwitnessed\n",
-        "",
-        0,
     ),
     (
         "called",
         "open 2 1 1\ntake 0 0 true\nenlist 0 1 0 done\nfree 0 0 true\nlook 1 1 true\ncall 1 1 0 1\ntake 0 0 true\n",
         "events 6\nwitnessed\n",
-        "",
-        0,
     ),
     (
         "swept",
         "open 2 1 1\ntake 0 0 true\nenlist 0 1 0 done\nfree 0 0 true\nlower 1 1 done\nsweep 1 1 1\nsome 1 1 2 1 0\n",
         "events 6\nwitnessed\n",
-        "",
-        0,
     ),
     (
         "permit_passed_on",
         "open 2 1 0 1\nstake 0 1 true\nstake 1 1 false\nsmark 1 1 done\nspark 1 1 true\nsfree 0 1 false\nspass 0 1 0 1\nsclear 0 1 done\n",
         "events 7\nwitnessed\n",
-        "",
-        0,
     ),
+];
+
+/// A witness that is refused, the fault, and the status.
+static REFUSED_WITNESSES: [(&str, &str, &str, u8); 7] = [
     (
         "an_unheld_lock_that_was_missed",
         "open 1 1 0\ntake 0 0 false\n",
-        "",
         "event 1 saw otherwise\n",
         2,
     ),
     (
         "handed_to_another",
         "open 3 1 0\ntake 0 0 true\ntake 1 0 false\nmark 1 0 done\npark 1 0 true\npass 0 0 1 0 2\n",
-        "",
         "event 5 saw otherwise\n",
         2,
     ),
     (
         "one_called_more",
         "open 2 1 1\ntake 0 0 true\nenlist 0 1 0 done\nfree 0 0 true\ncall 1 1 0 2\n",
-        "",
         "event 4 saw otherwise\n",
         2,
     ),
     (
         "freed_by_another",
         "open 2 1 0\ntake 0 0 true\nfree 1 0 true\ntake 0 0 true\n",
-        "",
         "event 2 refused\n",
         2,
     ),
-    ("bad_limits", "open 0 1 0\n", "", "bad limits\n", 1),
+    ("bad_limits", "open 0 1 0\n", "bad limits\n", 1),
     (
         "bad_line_before_bad_limits",
         "open 257 1 0\ntake 0 0\n",
-        "",
         "bad script line 2\n",
         1,
     ),
     (
         "bad_line_before_a_refused_event",
         "open 1 1 0\nfree 0 0 true\ntake 0 0 0\n",
-        "",
         "bad script line 3\n",
         1,
     ),
@@ -110,6 +92,7 @@ fn judge<R: Threads + Wait + Sync + Abort>(
 #[test]
 fn witnesses_are_judged(rt: HostRuntime) {
     check_scripts(&rt, rt.alloc(), "witness", &WITNESSES);
+    check_refused(&rt, rt.alloc(), "witness", &REFUSED_WITNESSES);
     let want = ("", "cannot read file\n", 1);
     check(
         &rt,
