@@ -21,15 +21,14 @@ const ROOM: usize = 4;
 
 const LAST: u64 = u64::MAX;
 
-// One thread is queued or none, and then one of a key is taken.
-struct Step {
-    queued: &'static [(usize, usize)],
-    key: usize,
-    now: u64,
-    word: u64,
-    taken: Dequeued,
-    next_fair: u64,
-}
+// Which threads are queued, each with its key. Then one of a key is taken, at a moment with a word: who, whether more
+// may wait, and whether it is fair. Last the next fair moment.
+type Step = (
+    &'static [(usize, usize)],
+    (usize, u64, u64),
+    (Option<usize>, bool, bool),
+    u64,
+);
 
 struct Row {
     name: &'static str,
@@ -42,155 +41,50 @@ static ROWS: [Row; 7] = [
     Row {
         name: "fair once the moment is past, not at it",
         steps: &[
-            Step {
-                queued: &[(0, 0)],
-                key: 0,
-                now: 1,
-                word: 999,
-                taken: Dequeued {
-                    thread: Some(0),
-                    more: false,
-                    fair: true,
-                },
-                next_fair: 1000,
-            },
-            Step {
-                queued: &[(1, 0)],
-                key: 0,
-                now: 1000,
-                word: 5,
-                taken: Dequeued {
-                    thread: Some(1),
-                    more: false,
-                    fair: false,
-                },
-                next_fair: 1000,
-            },
+            (&[(0, 0)], (0, 1, 999), (Some(0), false, true), 1000),
+            (&[(1, 0)], (0, 1000, 5), (Some(1), false, false), 1000),
         ],
         left: &[(0, &[])],
     },
     Row {
         name: "a handoff moves the next moment, and a release to nobody leaves it",
         steps: &[
-            Step {
-                queued: &[(1, 0)],
-                key: 0,
-                now: 5,
-                word: 7,
-                taken: Dequeued {
-                    thread: Some(1),
-                    more: false,
-                    fair: true,
-                },
-                next_fair: 12,
-            },
-            Step {
-                queued: &[],
-                key: 0,
-                now: 12,
-                word: 7,
-                taken: Dequeued {
-                    thread: None,
-                    more: false,
-                    fair: false,
-                },
-                next_fair: 12,
-            },
+            (&[(1, 0)], (0, 5, 7), (Some(1), false, true), 12),
+            (&[], (0, 12, 7), (None, false, false), 12),
         ],
         left: &[(0, &[])],
     },
     Row {
         name: "at moment 0 it is not fair, and the next moment stays",
-        steps: &[Step {
-            queued: &[(1, 0)],
-            key: 0,
-            now: 0,
-            word: 7,
-            taken: Dequeued {
-                thread: Some(1),
-                more: false,
-                fair: false,
-            },
-            next_fair: 0,
-        }],
+        steps: &[(&[(1, 0)], (0, 0, 7), (Some(1), false, false), 0)],
         left: &[(0, &[])],
     },
     Row {
         name: "the next moment stops at the last one",
         steps: &[
-            Step {
-                queued: &[(0, 0), (1, 0)],
-                key: 0,
-                now: LAST,
-                word: 7,
-                taken: Dequeued {
-                    thread: Some(0),
-                    more: true,
-                    fair: true,
-                },
-                next_fair: LAST,
-            },
-            Step {
-                queued: &[],
-                key: 0,
-                now: LAST,
-                word: 7,
-                taken: Dequeued {
-                    thread: Some(1),
-                    more: false,
-                    fair: false,
-                },
-                next_fair: LAST,
-            },
+            (&[(0, 0), (1, 0)], (0, LAST, 7), (Some(0), true, true), LAST),
+            (&[], (0, LAST, 7), (Some(1), false, false), LAST),
         ],
         left: &[(0, &[])],
     },
     Row {
         name: "a word of a whole millisecond adds nothing",
-        steps: &[Step {
-            queued: &[(0, 0)],
-            key: 0,
-            now: 50,
-            word: 1_000_000,
-            taken: Dequeued {
-                thread: Some(0),
-                more: false,
-                fair: true,
-            },
-            next_fair: 50,
-        }],
+        steps: &[(&[(0, 0)], (0, 50, 1_000_000), (Some(0), false, true), 50)],
         left: &[(0, &[])],
     },
     Row {
         name: "nobody waits on the key, so nothing changes",
-        steps: &[Step {
-            queued: &[(2, 1)],
-            key: 13,
-            now: 5,
-            word: 0,
-            taken: Dequeued {
-                thread: None,
-                more: false,
-                fair: false,
-            },
-            next_fair: 0,
-        }],
+        steps: &[(&[(2, 1)], (13, 5, 0), (None, false, false), 0)],
         left: &[(1, &[2])],
     },
     Row {
         name: "who waits on another key may be more",
-        steps: &[Step {
-            queued: &[(1, 13), (2, 1), (3, 13)],
-            key: 1,
-            now: 0,
-            word: 9,
-            taken: Dequeued {
-                thread: Some(2),
-                more: true,
-                fair: false,
-            },
-            next_fair: 0,
-        }],
+        steps: &[(
+            &[(1, 13), (2, 1), (3, 13)],
+            (1, 0, 9),
+            (Some(2), true, false),
+            0,
+        )],
         left: &[(13, &[1, 3])],
     },
 ];
@@ -246,14 +140,12 @@ fn expect_step(rt: &impl Abort, bucket: &mut Bucket<BareRoot>, step: &Step, name
     ensures places { bucket.new.places ≡ bucket.old.places }
     ensures opened { bucket.new.opened ≡ bucket.old.opened }
 {
-    queue_all(rt, bucket, step.queued);
-    let moment = Moment {
-        now: step.now,
-        word: step.word,
-    };
-    let taken = bucket.dequeue_one(step.key, moment);
-    equal_in(rt, taken, step.taken, name);
-    equal_in(rt, bucket.next_fair(), step.next_fair, name);
+    let (queued, (key, now, word), (thread, more, fair), next_fair) = *step;
+    queue_all(rt, bucket, queued);
+    let taken = bucket.dequeue_one(key, Moment { now, word });
+    let wanted = Dequeued { thread, more, fair };
+    equal_in(rt, taken, wanted, name);
+    equal_in(rt, bucket.next_fair(), next_fair, name);
 }
 
 fn expect_row(rt: &impl Abort, bucket: &mut Bucket<BareRoot>, row: &Row)
