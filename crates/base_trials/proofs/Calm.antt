@@ -18,7 +18,7 @@ use Rattle.lot_whole.specs.declared.views.LotPassView.{LotPassView}
 use Rattle.lot_whole.specs.declared.views.Stand.TheVariants.{Idle}
 use Rattle.lot_whole.specs.Closing.{HasDone}
 use Rattle.lot_whole.specs.Family.{lock, cond, sem}
-use Rattle.lot_whole.specs.Standing.{IsAwake, IsIdle, IsUp, MayWant, MayLineUp, MaySweep}
+use Rattle.lot_whole.specs.Standing.{WantsNothing, IsIdle, IsUp, MayWant, MayLineUp, MaySweep}
 use Rattle.lot_whole.specs.Whole.{rises}
 use Rattle.lot_scheme.specs.Standing.{LotStanding, standing, adding, wanting, owning, called_more as stand_called_more, setting_out}
 use Rattle.lot_scheme.specs.Standing.{swept, IsLooked}
@@ -48,7 +48,7 @@ unheld_here hs l near is = subst IsHeld (get_or-set_same hs l NotHeld NotHeld ne
 
 module _ {V : Type 0} where
   -- ---- what it may do
-  awake_of : (t : ℕ) (p : LotStanding V) → IsCalm t p → IsAwake p.own
+  awake_of : (t : ℕ) (p : LotStanding V) → IsCalm t p → WantsNothing p.own
   awake_of t p calm = record { up = calm.there.up; aim = calm.aim; sweeps = calm.there.sweeps; seeks = calm.there.seeks }
 
   pub calm_idle : (t : ℕ) (p : LotStanding V) → IsCalm t p → IsIdle p.own

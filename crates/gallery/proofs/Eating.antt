@@ -9,7 +9,8 @@ use Rattle.lot_words.specs.CallersRule.{CallersRule}
 use Rattle.lot_sync.specs.Lot.{LotNames, LotView, PassView, HasSeen, rested}
 use Rattle.lot_sync.specs.Values.{GoesOnTo}
 use Rattle.lot_calls.specs.Finished.{IsReady, IsFinished}
-use Rattle.lot_calls.specs.Visits.{MayBecome, VisitsBoth}
+use Rattle.lot_words.specs.Values.{MayBecome}
+use Rattle.lot_calls.specs.Visits.{VisitsBoth}
 use Rattle.lot_calls.proofs.Visiting.{lies_there}
 use Rattle.gallery.specs.declared.dinner.Fork.{Fork}
 use Rattle.gallery.specs.Dinner.{low_of, high_of, meals_of, HasPlaces, OneMore, AteWithBoth, AllAteWithBoth}

@@ -14,7 +14,8 @@ use Rattle.lot_sync.specs.Traces.{Adds}
 use Rattle.lot_sync.specs.Values.{Gets, MayGiveBack}
 use Rattle.lot_sync.proofs.Holdings.{may_go_back}
 use Rattle.lot_calls.specs.Traces.{VisitTrace, NestedTrace}
-use Rattle.lot_calls.specs.Visits.{own_parts, MayBecome, Finds, VisitsBoth}
+use Rattle.lot_words.specs.Values.{MayBecome}
+use Rattle.lot_calls.specs.Visits.{own_parts, Finds, VisitsBoth}
 use Rattle.lot_calls.proofs.Visiting.{set_back, finds, finds_got}
 
 -- the second lock is not owned when the first was got

@@ -12,7 +12,8 @@ use Rattle.lot_sync.specs.Lot.{LotView, PassView, ◌≈◌, HeldView, Owns, Has
 use Rattle.lot_sync.specs.Traces.{Adds}
 use Rattle.lot_sync.specs.Values.{Gets}
 use Rattle.lot_calls.specs.Traces.{VisitTrace}
-use Rattle.lot_calls.specs.Visits.{own_parts, MayBecome, Visits, Finds}
+use Rattle.lot_words.specs.Values.{MayBecome}
+use Rattle.lot_calls.specs.Visits.{own_parts, Visits, Finds}
 
 -- what was set and cleared again, and was clear before, is as before
 pub set_back : (bs : List Bool) (k : ℕ) → ¬ (get_or bs k false ≡ true) → set (set bs k true) k false ≡ bs

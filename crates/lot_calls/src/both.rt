@@ -4,7 +4,8 @@ ghost use Rattle.lot_order.specs.Order.{AllBelow};
 ghost use Rattle.lot_sync.specs.Lot.{Owns, OwnsNone, HasShape, keys_of};
 ghost use Rattle.lot_sync.specs.Traces.{Adds};
 ghost use Rattle.lot_calls.specs.Traces.{BothTrace, NestedTrace};
-ghost use Rattle.lot_calls.specs.Visits.{MayBecome, Finds, VisitsBoth};
+ghost use Rattle.lot_words.specs.Values.{MayBecome};
+ghost use Rattle.lot_calls.specs.Visits.{Finds, VisitsBoth};
 
 use lot_sync::{Lot, LotName, Moment, Pass, Tally};
 use lot_words::Keeps;

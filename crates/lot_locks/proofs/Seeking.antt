@@ -5,7 +5,7 @@ use Rattle.std.proofs.lemmas.List.Elements.{All-nil, All-append}
 use Rattle.std.specs.List.{All}
 use mathlib.Core.Option.{some}
 use lib.ListN.{get_elem?}
-use Rattle.lot_seeking.specs.Seeking.{SeekingLaws, Adds}
+use Rattle.lot_seeking.specs.Seeking.{SeekingLaws, AddingLaws}
 use Rattle.lot_seeking.proofs.Laws.{laws as seeking_laws, got_on, may_now}
 use Rattle.lot_events.specs.declared.events.Event.TheVariants.{Mark}
 use Rattle.lot_events.specs.declared.events.Seen.TheVariants.{Done}
@@ -122,7 +122,7 @@ module _ {V Part : Type 0} (rule : CallersRule V Part) where
   }
 
   module _ (n : ℕ) where
-    adds : Adds (λ (p : LotStanding V). p.thread) adding wanting (MaySeekOf rule.above n) IsSeek (IsOwner rule)
+    adds : AddingLaws (λ (p : LotStanding V). p.thread) adding wanting (MaySeekOf rule.above n) IsSeek (IsOwner rule)
     adds = record {
       none = λ p. sym (none_added p);
       both = λ p xs ys. both_added p (adding (adding p xs) ys) xs ys refl;

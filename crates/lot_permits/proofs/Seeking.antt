@@ -13,7 +13,7 @@ use Rattle.lot_whole.specs.declared.views.Stand.TheVariants.{Idle}
 use Rattle.lot_whole.specs.Family.{lock, cond, sem}
 use Rattle.lot_whole.specs.Standing.{IsUp, MayTakePermit, MayWantPermit, MaySeek}
 use Rattle.lot_seeking.specs.declared.seeking.Seeking.TheVariants.{Got, Waits}
-use Rattle.lot_seeking.specs.Seeking.{SeekingLaws, Adds}
+use Rattle.lot_seeking.specs.Seeking.{SeekingLaws, AddingLaws}
 use Rattle.lot_seeking.proofs.Laws.{laws as seeking_laws}
 use Rattle.lot_scheme.specs.Standing.{LotStanding, adding, seeking, one_permit_more}
 use Rattle.lot_scheme.specs.Traces.{IsPermitSeek}
@@ -42,7 +42,7 @@ module _ {V : Type 0} where
 
   module _ (above : ℕ → ℕ → Type 0) (first_sem : ℕ) where
     -- ---- the laws
-    adds : Adds (λ (p : LotStanding V). p.thread) adding seeking (MaySeekOf above first_sem) IsPermitSeek GetsPermit
+    adds : AddingLaws (λ (p : LotStanding V). p.thread) adding seeking (MaySeekOf above first_sem) IsPermitSeek GetsPermit
     adds = record {
       none = λ p. adding_none p;
       both = λ p xs ys. adding_on p xs ys;

@@ -33,8 +33,8 @@ GivenTrace t k became acts =
 -- ---- how a pass stands: p before, and q when a permit of k was given back
 module _ {V : Type 0} where
   -- it has a permit of k, and may give it back; the keys of the semaphores begin at first_sem
-  abbrev pub MayGiveBack : ℕ → LotStanding V → ℕ → Type 0
-  MayGiveBack first_sem p k = (first_sem ≤ k) × MayGive p.own k
+  abbrev pub MayGivePermit : ℕ → LotStanding V → ℕ → Type 0
+  MayGivePermit first_sem p k = (first_sem ≤ k) × MayGive p.own k
 
   -- the semaphore stays marked as parked where more may wait
   pub record PassesPermit (p : LotStanding V) (k : ℕ) (more : Bool) (became : Freed) (q : LotStanding V) : Type 0 where

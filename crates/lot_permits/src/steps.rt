@@ -58,9 +58,9 @@ pub trait SemSteps: Sought<Sems> {
 }
 
 impl<V: Keeps + Send, N: LotName<V> + Send, C: Tally + Send> SemSteps for LotScheme<V, N, C> {
-    ghost use Rattle.lot_permits.specs.Freed.{MayGiveBack, GivesPermit, PassesPermit};
+    ghost use Rattle.lot_permits.specs.Freed.{MayGivePermit, GivesPermit, PassesPermit};
 
-    ghost may_give = { MayGiveBack N.first_sem };
+    ghost may_give = { MayGivePermit N.first_sem };
 
     ghost gives = { GivesPermit };
 

@@ -12,7 +12,8 @@ use Rattle.lot_locks.specs.Released.{IsFitting, FreeTrace}
 use Rattle.lot_sync.specs.Lot.{LotView, PassView, ◌≈◌, HeldView, Owns, OwnsNone, HasSeen, HasShape, owning, letting_go}
 use Rattle.lot_sync.specs.Traces.{Adds, NotifyTrace}
 use Rattle.lot_sync.specs.Values.{Gets, MayGiveBack}
-use Rattle.lot_calls.specs.Visits.{own_parts, MayBecome}
+use Rattle.lot_words.specs.Values.{MayBecome}
+use Rattle.lot_calls.specs.Visits.{own_parts}
 use Rattle.lot_calls.specs.Waits.{AfterWaits, WaitsWhile, woken_from}
 use Rattle.lot_calls.specs.Traces.{WaitsTrace, GetAfterTrace}
 use Rattle.lot_calls.proofs.Visiting.{set_back, finds}

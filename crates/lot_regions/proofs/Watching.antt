@@ -20,7 +20,7 @@ use Rattle.lot_core.proofs.Members.{in_head, in_none, in_drop, head_left, once_t
 use Rattle.lot_core.proofs.Kept.{joined}
 use Rattle.lot_core.proofs.Permits.{found, not_found}
 use Rattle.lot_core.proofs.Law.{sound_kept}
-use Rattle.lot_regions.specs.Watch.{Watch, is_calm, IsAwake, opening_watch, OwesNothing, pays, IsDueFor, state_after, called_beside}
+use Rattle.lot_regions.specs.Watch.{Watch, is_calm, IsCalmOrSweeps, opening_watch, OwesNothing, pays, IsDueFor, state_after, called_beside}
 use Rattle.lot_regions.specs.Watch.{leaves, watch_after, KeepsWatch, IsWatched, WatchedRun, watch_after_all, NoneIsForgotten}
 
 -- ---- lines
@@ -52,7 +52,7 @@ some_first (suc n) (x ∷ xs) one some = (x, in_head x (take n xs))
 -- each thread that sweeps stays as it is, and each that is awake stays awake
 record IsSteady (point point' : ℕ → Point) : Type 0 where
   sweeping : (u c : ℕ) → point u ≡ Sweeps c → point' u ≡ Sweeps c
-  waking : (u : ℕ) → IsAwake (point u) → IsAwake (point' u)
+  waking : (u : ℕ) → IsCalmOrSweeps (point u) → IsCalmOrSweeps (point' u)
 
 same_points : (point : ℕ → Point) → IsSteady point point
 same_points point = record { sweeping = λ u c is. is; waking = λ u awake. awake }
@@ -67,7 +67,7 @@ let_go_steady : (point : ℕ → Point) (t : ℕ) → IsSteady point (let_go poi
 let_go_steady point t = record {
   sweeping = λ u c. at_all (λ u b. point u ≡ Sweeps c → (if b then released (point t) else point u) ≡ Sweeps c) t
       (λ is. ap released is) (λ u ne is. is) u;
-  waking = at_all (λ u b. IsAwake (point u) → IsAwake (if b then released (point t) else point u)) t
+  waking = at_all (λ u b. IsCalmOrSweeps (point u) → IsCalmOrSweeps (if b then released (point t) else point u)) t
       (λ awake. elim awake [ inl e ↦ inl (ap released e) | inr x ↦ inr (x.0, ap released x.1) ]) (λ u ne awake. awake);
 }
 
@@ -76,7 +76,7 @@ calmed_steady : (point : ℕ → Point) (t : ℕ) → ((c : ℕ) → point t ≡
 calmed_steady point t not_sweeping = record {
   sweeping = λ u c. at_all (λ u b. point u ≡ Sweeps c → (if b then Calm else point u) ≡ Sweeps c) t
       (λ is. absurd (not_sweeping c is)) (λ u ne is. is) u;
-  waking = at_all (λ u b. IsAwake (point u) → IsAwake (if b then Calm else point u)) t (λ awake. inl refl) (λ u ne awake. awake);
+  waking = at_all (λ u b. IsCalmOrSweeps (point u) → IsCalmOrSweeps (if b then Calm else point u)) t (λ awake. inl refl) (λ u ne awake. awake);
 }
 
 handed_steady : (point : ℕ → Point) (xs : List ℕ) → ((u c : ℕ) → Contains xs u → point u ≡ Sweeps c → ⊥) → IsSteady point (handed point xs)
@@ -103,12 +103,12 @@ is_calm_true (Rest c l) is = absurd (cc)
 is_calm_true (Sweeps c) is = absurd (cc)
 is_calm_true (Seeks k) is = absurd (cc)
 
-waits_not_awake : (s : StateView) (t c : ℕ) → Waits s.point c t → IsAwake (s.point t) → ⊥
+waits_not_awake : (s : StateView) (t c : ℕ) → Waits s.point c t → IsCalmOrSweeps (s.point t) → ⊥
 waits_not_awake s t c (l, w) (inl calm) = elim w [ inl e ↦ absurd (cc) | inr e ↦ absurd (cc) ]
 waits_not_awake s t c (l, w) (inr (d, at)) = elim w [ inl e ↦ absurd (cc) | inr e ↦ absurd (cc) ]
 
 -- who is awake stands in no condition's line
-not_in_line : (s : StateView) (t c : ℕ) → IsSound s → IsAwake (s.point t) → Contains (s.conds.line c) t → ⊥
+not_in_line : (s : StateView) (t c : ℕ) → IsSound s → IsCalmOrSweeps (s.point t) → Contains (s.conds.line c) t → ⊥
 not_in_line s t c sound awake inside = waits_not_awake s t c (sound.one_line_each.waits c t inside).1 awake
 
 -- who stands in the lines of two conditions stands in one
@@ -155,7 +155,7 @@ module _ {V : Type 0} (lock_of : ℕ → ℕ) (ready : ℕ → V → Bool) where
   -- nobody began to owe
   steady : (s : StateView) (g : Watch V) (locks : Locks) (sems : Semaphores) (point : ℕ → Point)
       → ((u c : ℕ) → s.point u ≡ Sweeps c → point u ≡ Sweeps c)
-      → ((u c : ℕ) → g.owes u c ≡ true → IsAwake (s.point u) → IsAwake (point u)) → IsWatched lock_of ready s g
+      → ((u c : ℕ) → g.owes u c ≡ true → IsCalmOrSweeps (s.point u) → IsCalmOrSweeps (point u)) → IsWatched lock_of ready s g
       → IsWatched lock_of ready (record s { locks = locks; sems = sems; point = point }) g
   steady s g locks sems point sweeping waking h = record {
     due = λ c is some. let w = h.due c is some in (
@@ -183,7 +183,7 @@ module _ {V : Type 0} (lock_of : ℕ → ℕ) (ready : ℕ → V → Bool) where
       steady s g locks sems (put s.point t p)
       (λ u c. at_all (λ u b. s.point u ≡ Sweeps c → (if b then p else s.point u) ≡ Sweeps c) t
       (λ is. absurd (not_sweeping c is)) (λ u ne is. is) u)
-      (λ u c owes. at_all (λ w b. w ≡ u → IsAwake (s.point w) → IsAwake (if b then p else s.point w)) t
+      (λ u c owes. at_all (λ w b. w ≡ u → IsCalmOrSweeps (s.point w) → IsCalmOrSweeps (if b then p else s.point w)) t
       (λ e awake. absurd (another g t u c nothing owes (sym e))) (λ w ne e awake. awake) u refl) h
 
   -- t let l go, where it left v
@@ -206,7 +206,7 @@ module _ {V : Type 0} (lock_of : ℕ → ℕ) (ready : ℕ → V → Bool) where
         at_all (λ w b. g.called w ≡ None → (if b then called_beside lock_of ready l (g.called t) else g.called w) ≡ None) t
         (λ none. ap (called_beside lock_of ready l) none) (λ w ne none. none) u (h.outside c u inside);
     awake = λ u c.
-        at_all (λ w b. (if b then (λ c. (lock_of c == l) && ready c v) else g.owes w) c ≡ true → IsAwake (point w)) t
+        at_all (λ w b. (if b then (λ c. (lock_of c == l) && ready c v) else g.owes w) c ≡ true → IsCalmOrSweeps (point w)) t
         (λ owes. still.waking t (inl calm)) (λ w ne owes. still.waking w (h.awake w c owes)) u;
   }
     where
@@ -258,7 +258,7 @@ module _ {V : Type 0} (lock_of : ℕ → ℕ) (ready : ℕ → V → Bool) where
           | inr x ↦ absurd (ne (e ∙ x.1))
         ]) u refl;
     awake = λ u d owes.
-        at_all (λ w b. w ≡ u → IsAwake (s.point w) → IsAwake (if b then Bed c l else s.point w)) t
+        at_all (λ w b. w ≡ u → IsCalmOrSweeps (s.point w) → IsCalmOrSweeps (if b then Bed c l else s.point w)) t
         (λ e awake. absurd (another g t u d keeps.0 owes (sym e))) (λ w ne e awake. awake) u refl (h.awake u d owes);
   }
     where
@@ -292,7 +292,7 @@ module _ {V : Type 0} (lock_of : ℕ → ℕ) (ready : ℕ → V → Bool) where
       → IsSound s → IsWatched lock_of ready s g → ((u : ℕ) → Contains taken u → Contains (s.conds.line c) u)
       → ((u : ℕ) → Contains rest u → Contains (s.conds.line c) u)
       → ((u : ℕ) → Contains taken u → Contains rest u → ⊥) → (rest ≢ [] → (u : ℕ) × Contains taken u)
-      → ((u d : ℕ) → d ≢ c → g.owes u d ≡ true → owes u d ≡ true) → ((u d : ℕ) → owes u d ≡ true → IsAwake (point u))
+      → ((u d : ℕ) → d ≢ c → g.owes u d ≡ true → owes u d ≡ true) → ((u d : ℕ) → owes u d ≡ true → IsCalmOrSweeps (point u))
       → ((u d : ℕ) → d ≢ c → s.point u ≡ Sweeps d → point u ≡ Sweeps d)
       → IsWatched lock_of ready (record s { conds = record { flag = flag; line = put s.conds.line c rest }; point = point })
       (record { value = g.value; owes = owes; called = λ u. if list_any (nat_eq u) taken then Some c else g.called u })
@@ -364,7 +364,7 @@ module _ {V : Type 0} (lock_of : ℕ → ℕ) (ready : ℕ → V → Bool) where
     ];
     outside = h.outside;
     awake = λ u d owes.
-        at_all (λ w b. IsAwake (s.point w) → IsAwake (if b then Sweeps c else s.point w)) t (λ awake. inr (c, refl)) (λ w ne awake. awake) u
+        at_all (λ w b. IsCalmOrSweeps (s.point w) → IsCalmOrSweeps (if b then Sweeps c else s.point w)) t (λ awake. inr (c, refl)) (λ w ne awake. awake) u
         (h.awake u d (owed_before g t c u d owes));
   }
   watch_kept s g (Sweep t c) v sound h ok keeps =
@@ -373,7 +373,7 @@ module _ {V : Type 0} (lock_of : ℕ → ℕ) (ready : ℕ → V → Bool) where
       (λ u inside behind. in_none u (subst (λ ys. Contains ys u) (drop-length (s.conds.line c)) behind))
       (λ some. absurd (some (drop-length (s.conds.line c))))
       (λ u d ne owes. owes)
-      (λ u d owes. at_all (λ w b. IsAwake (s.point w) → IsAwake (if b then Calm else s.point w)) t (λ awake. inl refl)
+      (λ u d owes. at_all (λ w b. IsCalmOrSweeps (s.point w) → IsCalmOrSweeps (if b then Calm else s.point w)) t (λ awake. inl refl)
       (λ w ne awake. awake) u
       (h.awake u d owes))
       (λ u d ne is. put_other s.point t Calm u (λ e. let at : s.point t ≡ Sweeps d = subst (λ w. s.point w ≡ Sweeps d) e is in

@@ -2,7 +2,8 @@
 use Rattle.std.specs.Prelude.{◌≡◌, ℕ, ◌<◌, ◌≤◌, ◌^◌, slice_set}
 use Rattle.lot_words.specs.CallersRule.{CallersRule}
 use Rattle.lot_sync.specs.Lot.{LotView, PassView, ◌≈◌, HasSeen, IsCond, owning}
-use Rattle.lot_calls.specs.Visits.{own_parts, MayBecome, Finds}
+use Rattle.lot_words.specs.Values.{MayBecome}
+use Rattle.lot_calls.specs.Visits.{own_parts, Finds}
 
 -- all numbers from `first` on and below `behind` are conditions of the lot
 abbrev pub AreConds : LotView → ℕ → ℕ → Type 0

@@ -25,8 +25,8 @@ is_calm (Rest c l) = false
 is_calm (Sweeps c) = false
 is_calm (Seeks k) = false
 
-abbrev pub IsAwake : Point → Type 0
-IsAwake p = (p ≡ Calm) ⊎ ((c : ℕ) × (p ≡ Sweeps c))
+abbrev pub IsCalmOrSweeps : Point → Type 0
+IsCalmOrSweeps p = (p ≡ Calm) ⊎ ((c : ℕ) × (p ≡ Sweeps c))
 
 module _ {V : Type 0} where
   -- the values of an opening state, in which nobody owes a notification or was called
@@ -99,7 +99,7 @@ module _ {V : Type 0} (lock_of : ℕ → ℕ) (ready : ℕ → V → Bool) where
   pub record IsWatched (s : StateView) (g : Watch V) : Type 0 where
     pub due : (c : ℕ) → ready c (g.value (lock_of c)) ≡ true → s.conds.line c ≢ [] → (u : ℕ) × IsThread s u × IsDueFor s g u c
     pub outside : (c t : ℕ) → Contains (s.conds.line c) t → g.called t ≡ None
-    pub awake : (t c : ℕ) → g.owes t c ≡ true → IsAwake (s.point t)
+    pub awake : (t c : ℕ) → g.owes t c ≡ true → IsCalmOrSweeps (s.point t)
 
   -- a run of events with the values that were left, each of which keeps the watch
   abbrev pub WatchedRun : StateView → Watch V → List (Event × V) → Type 0

@@ -3,7 +3,8 @@ ghost use Rattle.std.specs.Prelude.{◌≡◌, ◌<◌, ◌≤◌, ◌-◌, ℕ,
 ghost use Rattle.lot_sync.specs.Lot.{◌≈◌, Owns, OwnsNone, HasSeen, HasShape, letting_go};
 ghost use Rattle.lot_sync.specs.Traces.{Adds};
 ghost use Rattle.lot_sync.specs.Values.{MayGiveBack};
-ghost use Rattle.lot_calls.specs.Visits.{MayBecome, Finds};
+ghost use Rattle.lot_words.specs.Values.{MayBecome};
+ghost use Rattle.lot_calls.specs.Visits.{Finds};
 ghost use Rattle.lot_calls.specs.Waits.{WaitsWhile, woken_from};
 ghost use Rattle.lot_regions.specs.Traces.{LeaveTrace, ChangeTrace, WhenTrace};
 ghost use Rattle.lot_regions.specs.Regions.{AreConds, Region};

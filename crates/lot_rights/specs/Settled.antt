@@ -58,12 +58,12 @@ module _ {S P R : Type 0} (k : Meaning S P R) where
 
   -- Of every table that keeps the rule: each right is in exactly one place, and the log without its notices is a run of
   -- the model to the part that the words tell
-  pub record HasOneRun (s : State S (List (Right P R))) (here : Ruled k s) : Type 0 where
+  pub record TableHasOneRun (s : State S (List (Right P R))) (here : Ruled k s) : Type 0 where
     pub once : (i : ℕ) → IsRight k i → times_in number i s.views ≡ 1
     pub model : ModelRun k.Step k.start.part (events_in here.log) (k.told_by here.world).part
 
   abbrev pub RuledHasOneRun : Type 0
-  RuledHasOneRun = (s : State S (List (Right P R))) (here : Ruled k s) → HasOneRun s here
+  RuledHasOneRun = (s : State S (List (Right P R))) (here : Ruled k s) → TableHasOneRun s here
 
   -- What every headline says of its world: each right is in exactly one place, and knows what the world says of it; and
   -- one legal history, of which the rights have all entries, has led to it. Without its notices that is a run of the

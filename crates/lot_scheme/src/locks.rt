@@ -6,7 +6,7 @@ ghost use Rattle.lot_events.specs.declared.events.Event.TheVariants.{Try, Take, 
 ghost use Rattle.lot_events.specs.declared.events.Seen.TheVariants.{Bool as Saw, Done, Sleeper};
 ghost use Rattle.lot_rights.specs.declared.views.Access.TheVariants.{Makes, Finds};
 ghost use Rattle.lot_words.specs.World.{Holds, HoldsParked};
-ghost use Rattle.lot_words.specs.Values.{IsIn, IsOut, HasSeen, MayLeave};
+ghost use Rattle.lot_words.specs.Values.{IsIn, IsOut, HasSeen, MayBecome};
 ghost use Rattle.lot_words.specs.Calls.{token_of};
 ghost use Rattle.lot_words.specs.declared.views.Place.TheVariants.{InSlot, Out};
 ghost use Rattle.lot_whole.specs.Standing.{IsIdle, MayTake, MayWant, MayLetGo, MayLineUp};
@@ -181,7 +181,7 @@ impl<V: Keeps, N: LotName<V>, C: Tally> LotScheme<V, N, C> {
     pub fn value_in(&self, pass: NamedPass<V, N>, key: usize, value: V) -> NamedPass<V, N>
         requires key { key < N.locks }
         requires holds { Holds pass.own.locks key × IsOut pass.own.locks key }
-        requires lawful { (x : V) × HasSeen pass.own.locks key x × MayLeave V.Keeps key pass.thread x value }
+        requires lawful { (x : V) × HasSeen pass.own.locks key x × MayBecome V.Keeps key pass.thread x value }
         ensures { result ≡ placing pass key (InSlot value) }
     {
         NamedPass::new(self.words().value_in(pass.into_pass(), key, value))

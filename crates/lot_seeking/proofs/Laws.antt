@@ -4,10 +4,10 @@ use Rattle.std.specs.List.{All}
 use Rattle.std.proofs.lemmas.List.Elements.{All-nil, All-append}
 use Rattle.lot_seeking.specs.declared.seeking.Seeking.{Seeking}
 use Rattle.lot_seeking.specs.declared.seeking.Seeking.TheVariants.{Got, Waits, Parks}
-use Rattle.lot_seeking.specs.Seeking.{SeekingLaws, IsUnfinished, IsAwake, IsWanting, SeeksSo, Adds}
+use Rattle.lot_seeking.specs.Seeking.{SeekingLaws, IsUnfinished, IsAwake, IsWanting, SeeksSo, AddingLaws}
 
 module _ {P A : Type 0} (thread : P → ℕ) (adding : P → List A → P) (wants : P → ℕ → P) (allowed : P → ℕ → Type 0)
-    (is_seek : ℕ → ℕ → A → Type 0) (gets : P → ℕ → P → Type 0) (adds : Adds thread adding wants allowed is_seek gets) where
+    (is_seek : ℕ → ℕ → A → Type 0) (gets : P → ℕ → P → Type 0) (adds : AddingLaws thread adding wants allowed is_seek gets) where
   abbrev Awake : P → ℕ → P → Type 0
   Awake = IsAwake thread adding wants allowed is_seek
 

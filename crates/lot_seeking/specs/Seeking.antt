@@ -58,7 +58,7 @@ module _ {P A : Type 0} (thread : P → ℕ) (adding : P → List A → P) (want
 
     -- Accesses add up and change nothing else. Who wants it wants the same and may seek it still; and who has got it from
     -- there, or after accesses that got nothing, has got it.
-    pub record Adds : Type 0 where
+    pub record AddingLaws : Type 0 where
       pub none : (p : P) → adding p [] ≡ p
       pub both : (p : P) (xs ys : List A) → adding (adding p xs) ys ≡ adding p (xs ++ ys)
       pub same : (p : P) (xs : List A) → thread (adding p xs) ≡ thread p

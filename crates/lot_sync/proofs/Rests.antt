@@ -17,7 +17,7 @@ use Rattle.lot_words.specs.declared.views.Place.{Place}
 use Rattle.lot_words.specs.declared.views.Place.TheVariants.{InSlot, Out}
 use Rattle.lot_words.specs.CallersRule.{CallersRule}
 use Rattle.lot_words.specs.World.{IsHeld, Holds}
-use Rattle.lot_words.specs.Values.{IsOut, IsIn, FoundOk, HasSeen, MayLeave}
+use Rattle.lot_words.specs.Values.{IsOut, IsIn, FoundOk, HasSeen, MayBecome}
 use Rattle.lot_words.specs.Calls.{owning as lock_owning}
 use Rattle.lot_whole.specs.declared.views.LotPassView.{LotPassView}
 use Rattle.lot_whole.specs.declared.views.Stand.TheVariants.{Idle}
@@ -399,7 +399,7 @@ module _ {V Part : Type 0} (rule : CallersRule V Part) (names : LotNames V) wher
   -- the value that is given back may be left there
   pub may_leave : (p : LotStanding V) (held : HeldView V) (l : ℕ) → held.key ≡ l → l < names.locks → IsAtRest rule.grows names p
       → MayGiveBack rule (pass_view_of p) held
-      → (x : V) × HasSeen p.own.locks l x × MayLeave rule l p.thread x held.value
+      → (x : V) × HasSeen p.own.locks l x × MayBecome rule l p.thread x held.value
   may_leave p held l is near rest back =
       let had = reads p.own.locks.seen l (let w = rest.of_lot.seen_long in omega (arith, w)) in
       let seen : HasSeen p.own.locks held.key had.0 = subst (λ k. HasSeen p.own.locks k had.0) (sym is) had.1 in (

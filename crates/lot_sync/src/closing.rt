@@ -5,7 +5,7 @@ ghost use Rattle.lot_rights.specs.Shown.{PassShown, RootShown};
 ghost use Rattle.lot_whole.specs.declared.views.LotPassView.{LotPassView};
 ghost use Rattle.lot_whole.specs.declared.views.LotRootView.{LotRootView};
 ghost use Rattle.lot_waits.specs.Counts.{counts_shown};
-ghost use Rattle.lot_waits.specs.Ledger.{AreTallied, AreZeros};
+ghost use Rattle.lot_waits.specs.Ledger.{AreBothSums, AreZeros};
 ghost use Rattle.lot_sync.specs.Lot.{PassView, OwnsNone, IsLedgerOf};
 ghost use Rattle.lot_sync.specs.Passes.{pass_view_shown, IsFree};
 ghost use Rattle.lot_sync.specs.Values.{GoesOnTo, AreSeen};
@@ -97,7 +97,7 @@ pub(crate) fn gather<V: Keeps + Send, N: LotName<V> + Send>(
     requires zeros { AreZeros N.conds sums.old }
     ensures same { map pass_view_shown rights.new.items ≡ passes.items }
     ensures free { All (IsFree N.opening.locks) rights.new.items }
-    ensures tallied { AreTallied N.locks N.conds (map counts_shown rights.new.items) sums.new }
+    ensures tallied { AreBothSums N.locks N.conds (map counts_shown rights.new.items) sums.new }
 {
     while let Some(pass) = passes.pop() {
         let (right, tallies) = pass.apart();

@@ -11,7 +11,7 @@ use Rattle.lot_rights.specs.declared.views.Entry.{Entry}
 use Rattle.lot_rights.specs.History.{Telling, doer}
 use Rattle.lot_words.specs.Rested.{Rested}
 use Rattle.lot_whole.specs.Family.{cond}
-use Rattle.lot_whole.specs.Order.{IsLogOf, Dequeues}
+use Rattle.lot_whole.specs.Order.{IsLogOf, IsTaking}
 use Rattle.lot_scheme.specs.Counts.{IsContention, CountsOf}
 use Rattle.lot_scheme.specs.declared.contention.Contention.{Contention}
 use Rattle.lot_scheme.specs.Roots.{size_named}
@@ -21,11 +21,11 @@ use Rattle.lot_trials.specs.Counting.{EndsAs}
 -- ---- accesses
 -- it takes nobody from the line of c
 abbrev pub TakesNone : ℕ → Access → Type 0
-TakesNone c a = ¬ Dequeues cond c a
+TakesNone c a = ¬ IsTaking cond c a
 
 -- it takes nobody from the line of c, but by a Call of one of this thread
 abbrev pub IsOwnCall : ℕ → ℕ → Access → Type 0
-IsOwnCall c t a = Dequeues cond c a → (more : Bool) × (n : ℕ) × (a ≡ Makes (Call t c 1 more) (Count n))
+IsOwnCall c t a = IsTaking cond c a → (more : Bool) × (n : ℕ) × (a ≡ Makes (Call t c 1 more) (Count n))
 
 module _ {V : Type 0} where
   -- ---- passes

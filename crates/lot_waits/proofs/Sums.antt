@@ -7,7 +7,7 @@ use Rattle.lot_whole.specs.declared.views.LotPassView.{LotPassView}
 use Rattle.lot_whole.specs.Closing.{called_in, woken_in}
 use Rattle.lot_waits.specs.declared.tallies.Tallies.{Tallies}
 use Rattle.lot_waits.specs.Counts.{CountsView, wrap, counts_shown}
-use Rattle.lot_waits.specs.Ledger.{AreSums, AreTallied, AreZeros, IsBalanced, called_at, woken_at}
+use Rattle.lot_waits.specs.Ledger.{AreSums, AreBothSums, AreZeros, IsBalanced, called_at, woken_at}
 
 -- no waiter yet
 pub sums_of_none : (locks conds : ℕ) (count_at : ℕ → CountsView → ℕ) (sums : List ℕ) → sums ≡ replicate conds 0
@@ -42,14 +42,14 @@ pub balanced_of : {V : Type 0} (passes : List (PassShown (LotPassView V))) → (
 balanced_of passes even c = sum_mapped counts_shown (called_at c) passes ∙ (even c ∙ sym (sum_mapped counts_shown (woken_at c) passes))
 
 -- ---- both sums
-pub tallied_none : (locks conds : ℕ) (sums : Tallies) → AreZeros conds sums → AreTallied locks conds [] sums
+pub tallied_none : (locks conds : ℕ) (sums : Tallies) → AreZeros conds sums → AreBothSums locks conds [] sums
 tallied_none locks conds sums zeros = record {
   called_sums = sums_of_none locks conds called_at sums.called.items zeros.0;
   woken_sums = sums_of_none locks conds woken_at sums.woken.items zeros.1;
 }
 
-pub tallied_turned : (locks conds : ℕ) (waiters : List CountsView) (sums : Tallies) → AreTallied locks conds waiters sums
-    → AreTallied locks conds (reverse waiters) sums
+pub tallied_turned : (locks conds : ℕ) (waiters : List CountsView) (sums : Tallies) → AreBothSums locks conds waiters sums
+    → AreBothSums locks conds (reverse waiters) sums
 tallied_turned locks conds waiters sums are = record {
   called_sums = sums_turned locks conds called_at waiters sums.called.items are.called_sums;
   woken_sums = sums_turned locks conds woken_at waiters sums.woken.items are.woken_sums;

@@ -13,7 +13,7 @@ use Rattle.lot_words.specs.CallersRule.{CallersRule}
 use Rattle.lot_words.specs.Values.{IsIn}
 use Rattle.lot_whole.specs.declared.views.Stand.TheVariants.{Idle, AtRest}
 use Rattle.lot_whole.specs.Family.{lock, cond, sem}
-use Rattle.lot_whole.specs.Standing.{IsUp, IsAwake, MayWant}
+use Rattle.lot_whole.specs.Standing.{IsUp, WantsNothing, MayWant}
 use Rattle.lot_scheme.specs.Standing.{LotStanding, adding, letting_go, enlisted, one_wait_more, IsLooked, CollectsIn}
 use Rattle.lot_scheme.specs.Traces.{IsVain}
 use Rattle.lot_locks.specs.Released.{FreeTrace}
@@ -67,7 +67,7 @@ module _ {V : Type 0} where
   takes above locks first_sem p s c l became may r = subst (λ (q : LotStanding V). MayWant above q.own l) (sym r.is)
       (inr (awake, inr (c, refl)), λ idle. absurd (let e : AtRest c l ≡ Idle = idle.1 in cc))
     where
-      awake : IsAwake (rest p c l r.left).own
+      awake : WantsNothing (rest p c l r.left).own
       awake = record {
         up = rest_up p c l r.left may.idle.0.up;
         aim = may.idle.0.aim;

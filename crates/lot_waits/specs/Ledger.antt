@@ -16,7 +16,7 @@ pub record AreSums (locks conds : ℕ) (count_at : ℕ → CountsView → ℕ) (
   pub each : (i : ℕ) → i < conds → slice_index sums i ≡ wrap (sum_by (count_at (locks + i)) waiters)
 
 -- of both numbers
-pub record AreTallied (locks conds : ℕ) (waiters : List CountsView) (sums : Tallies) : Type 0 where
+pub record AreBothSums (locks conds : ℕ) (waiters : List CountsView) (sums : Tallies) : Type 0 where
   pub called_sums : AreSums locks conds called_at waiters sums.called.items
   pub woken_sums : AreSums locks conds woken_at waiters sums.woken.items
 

@@ -28,7 +28,7 @@ use Rattle.lot_whole.specs.Whole.{WholeStep, word_in, waiting_in, line_in, line_
 use Rattle.lot_whole.specs.Headline.{event_of}
 use Rattle.lot_whole.proofs.Queueing.{history_balances}
 use Rattle.lot_whole.proofs.Whole.{counts_after}
-use Rattle.lot_whole.specs.Order.{IsLogOf, state_after, accesses_of, Queues, Dequeues, SeesIn, WasTaken, LettersFollow}
+use Rattle.lot_whole.specs.Order.{IsLogOf, state_after, accesses_of, IsQueuing, IsTaking, SeesIn, WasTaken, LettersFollow}
 use Rattle.lot_whole.specs.Order.{CountsFollow}
 
 -- ---- parts of a run
@@ -148,9 +148,9 @@ module _ (t : ℕ) (line : ℕ → List ℕ) (c : ℕ) where
 module _ (t c : ℕ) (s : StateView) where
   -- an event leaves the thread in the line, or it is one by which threads are taken from there
   abbrev Stays : Which → Event → Seen → Type 0
-  Stays j e saw = Dequeues j c (Makes e saw) ⊎ Contains (line_in (after s e) j c) t
+  Stays j e saw = IsTaking j c (Makes e saw) ⊎ Contains (line_in (after s e) j c) t
 
-  if_other : (j : Which) (e : Event) (saw : Seen) (d : ℕ) → (d ≡ c → Dequeues j c (Makes e saw))
+  if_other : (j : Which) (e : Event) (saw : Seen) (d : ℕ) → (d ≡ c → IsTaking j c (Makes e saw))
       → (d ≢ c → Contains (line_in (after s e) j c) t) → Stays j e saw
   if_other j e saw d here there = dite (ℕ_discrete d c) (λ is. inl (here is)) (λ ne. inr (there ne))
 
@@ -222,7 +222,7 @@ module _ (z : LotSize) where
 
   -- who was in the line and is not was taken from it, by an event of a thread
   abbrev Taking : Which → ℕ → Telling StateView → Access → Type 0
-  Taking j c a x = Dequeues j c x × ((u : ℕ) × (u < a.part.threads) × (doer x ≡ 2 * u))
+  Taking j c a x = IsTaking j c x × ((u : ℕ) × (u < a.part.threads) × (doer x ≡ 2 * u))
 
   same_line : (j : Which) (t c : ℕ) (a b : Telling StateView) → b.part ≡ a.part → Contains (line_in a.part j c) t
       → ¬ Contains (line_in b.part j c) t → ⊥
@@ -242,7 +242,7 @@ module _ (z : LotSize) where
 
   -- who was queued is in the line
   was_queued : (j : Which) (t c : ℕ) (a : Telling StateView) (x : Access) (b : Telling StateView)
-      → Happens WholeStep (word_in z) (waiting_in z) a x b → Queues j t c x → Contains (line_in b.part j c) t
+      → Happens WholeStep (word_in z) (waiting_in z) a x b → IsQueuing j t c x → Contains (line_in b.part j c) t
   was_queued lock t c a x b step is =
       let h = subst (λ y. Happens WholeStep (word_in z) (waiting_in z) a y b) is step in
       let s : Locks = a.part.locks in
@@ -354,7 +354,7 @@ module _ (z : LotSize) where
 -- y
 module _ (z : LotSize) (log : List Entry) (b : Telling StateView) (run : IsLogOf z log b) (j : Which) (t c token : ℕ) (front : List Access)
     (x : Access) (between : List Access) (y : Access) (back : List Access)
-    (mine : accesses_of (2 * t) log ≡ front ++ x ∷ (between ++ y ∷ back)) (queues : Queues j t c x)
+    (mine : accesses_of (2 * t) log ≡ front ++ x ∷ (between ++ y ∷ back)) (queues : IsQueuing j t c x)
     (collects : y ≡ Collects t (Some token)) where
   abbrev start : Telling StateView
   start = no_letters (opening_of z)
@@ -379,7 +379,7 @@ module _ (z : LotSize) (log : List Entry) (b : Telling StateView) (run : IsLogOf
 
   -- after x the thread is in the line
   is_in : Contains (line_in by_x.now.part j c) t
-  is_in = was_queued z j t c by_x.before at_x.entry.access by_x.now by_x.step.0 (subst (Queues j t c) (sym at_x.entry_is) queues)
+  is_in = was_queued z j t c by_x.before at_x.entry.access by_x.now by_x.step.0 (subst (IsQueuing j t c) (sym at_x.entry_is) queues)
 
   -- and before y it is not, since a letter lies for it
   is_not_in : ¬ Contains (line_in by_y.before.part j c) t

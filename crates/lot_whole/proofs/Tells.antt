@@ -35,7 +35,7 @@ use Rattle.lot_whole.specs.Family.{Which, lock, cond, sem, LotSize, away, meanin
 use Rattle.lot_whole.specs.Whole.{stand_of}
 use Rattle.lot_whole.specs.Lot.{own_of, LotWorld, PassOk, LotFits, LotPassIs}
 use Rattle.lot_whole.specs.Lifts.{Quiet}
-use Rattle.lot_whole.specs.Standing.{IsAwake, IsIdle, keys_of, MayTake, MayWant, MayLetGo, MayLineUp, MayTakePermit, MayWantPermit}
+use Rattle.lot_whole.specs.Standing.{WantsNothing, IsIdle, keys_of, MayTake, MayWant, MayLetGo, MayLineUp, MayTakePermit, MayWantPermit}
 use Rattle.lot_whole.proofs.Family.{not_true, still}
 
 -- ---- points
@@ -120,7 +120,7 @@ module _ {V Part : Type 0} (rule : CallersRule V Part) (z : LotSize) (xs : List 
         (((ok.parts lock).kept.threads t).holds l (subst (λ (x : LockPassView V). Holds x l) (sym (pass_ok.each lock).1) h))
 
     -- ---- where the thread stands
-    pub awake_calm : IsAwake p → p.stand ≡ Idle → at ≡ Calm
+    pub awake_calm : WantsNothing p → p.stand ≡ Idle → at ≡ Calm
     awake_calm up idle = calm_is at (wants (up.up lock) ∙ up.aim) (sweeps ∙ up.sweeps) (seeks ∙ up.seeks) (pass_ok.stand ∙ idle)
 
     pub idle_calm : IsIdle p → at ≡ Calm

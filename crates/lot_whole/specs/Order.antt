@@ -26,18 +26,18 @@ abbrev pub state_after : LotSize → List Entry → StateView
 state_after z log = after_all (opening_of z) (map event_of (events_in log))
 
 -- by the access the thread t is queued at the key c
-abbrev pub Queues : Which → ℕ → ℕ → Access → Type 0
-Queues lock t c a = a ≡ Makes (Park t c) (Saw true)
-Queues cond t c a = (l : ℕ) × (a ≡ Makes (Enlist t c l) Done)
-Queues sem t c a = a ≡ Makes (SemPark t c) (Saw true)
+abbrev pub IsQueuing : Which → ℕ → ℕ → Access → Type 0
+IsQueuing lock t c a = a ≡ Makes (Park t c) (Saw true)
+IsQueuing cond t c a = (l : ℕ) × (a ≡ Makes (Enlist t c l) Done)
+IsQueuing sem t c a = a ≡ Makes (SemPark t c) (Saw true)
 
 -- by such an access threads are taken from the line of the key c
-abbrev pub Dequeues : Which → ℕ → Access → Type 0
-Dequeues lock c (Makes (Pass u d fair more) saw) = d ≡ c
-Dequeues cond c (Makes (Call u d n more) saw) = d ≡ c
-Dequeues cond c (Makes (Sweep u d) saw) = d ≡ c
-Dequeues sem c (Makes (SemPass u d more) saw) = d ≡ c
-Dequeues _ _ _ = ⊥
+abbrev pub IsTaking : Which → ℕ → Access → Type 0
+IsTaking lock c (Makes (Pass u d fair more) saw) = d ≡ c
+IsTaking cond c (Makes (Call u d n more) saw) = d ≡ c
+IsTaking cond c (Makes (Sweep u d) saw) = d ≡ c
+IsTaking sem c (Makes (SemPass u d more) saw) = d ≡ c
+IsTaking _ _ _ = ⊥
 
 -- what the access saw is what its event sees in this state
 abbrev pub SeesIn : StateView → Access → Type 0
@@ -67,7 +67,7 @@ pub record WasTaken (z : LotSize) (j : Which) (t c : ℕ) (log : List Entry) (fr
   pub between_is : accesses_of (2 * t) (waiting ++ taking ∷ since) ≡ between
   pub last_is : last.access ≡ y
   -- what was done
-  pub takes : Dequeues j c taking.access
+  pub takes : IsTaking j c taking.access
   pub saw : SeesIn (state_after z (before ++ first ∷ waiting)) taking.access
   pub was_in : Contains (line_in (state_after z (before ++ first ∷ waiting)) j c) t
   pub is_out : ¬ Contains (line_in (state_after z ((before ++ first ∷ waiting) ++ taking ∷ [])) j c) t
@@ -83,7 +83,7 @@ pub record WasTaken (z : LotSize) (j : Which) (t c : ℕ) (log : List Entry) (fr
 abbrev pub LettersFollow : Type 0
 LettersFollow = (z : LotSize) (log : List Entry) (b : Telling StateView) → IsLogOf z log b
     → (j : Which) (t c token : ℕ) (front : List Access) (x : Access) (between : List Access) (y : Access) (back : List Access)
-    → accesses_of (2 * t) log ≡ front ++ x ∷ (between ++ y ∷ back) → Queues j t c x → y ≡ Collects t (Some token)
+    → accesses_of (2 * t) log ≡ front ++ x ∷ (between ++ y ∷ back) → IsQueuing j t c x → y ≡ Collects t (Some token)
     → WasTaken z j t c log front x between y
 
 -- how many threads the event queued at the key c

@@ -21,7 +21,7 @@ module _ {V : Type 0} where
   IsUp p = (j : Which) → away V j (own_of V p j) ≡ false
 
   -- it is up, and wants, sweeps and seeks nothing
-  pub record IsAwake (p : LotPassView V) : Type 0 where
+  pub record WantsNothing (p : LotPassView V) : Type 0 where
     pub up : IsUp p
     pub aim : p.locks.aim ≡ None
     pub sweeps : p.conds.sweeps ≡ None
@@ -29,7 +29,7 @@ module _ {V : Type 0} where
 
   -- and it stands at no condition: a pass between two calls of a lot
   abbrev pub IsIdle : LotPassView V → Type 0
-  IsIdle p = IsAwake p × (p.stand ≡ Idle)
+  IsIdle p = WantsNothing p × (p.stand ≡ Idle)
 
   -- what it has: locks, and permits
   abbrev pub keys_of : LotPassView V → Keys
@@ -42,7 +42,7 @@ module _ {V : Type 0} where
 
   -- the thread may take the lock l: it wants l, or nothing, or rests on a condition and had l before
   abbrev pub MayTake : LotPassView V → ℕ → Type 0
-  MayTake p l = (IsUp p × (p.locks.aim ≡ Some l)) ⊎ (IsAwake p × ((p.stand ≡ Idle) ⊎ ((c : ℕ) × (p.stand ≡ AtRest c l))))
+  MayTake p l = (IsUp p × (p.locks.aim ≡ Some l)) ⊎ (WantsNothing p × ((p.stand ≡ Idle) ⊎ ((c : ℕ) × (p.stand ≡ AtRest c l))))
 
   -- and may wait for it
   abbrev pub MayWant : (ℕ → ℕ → Type 0) → LotPassView V → ℕ → Type 0

@@ -7,7 +7,7 @@ ghost use Rattle.lot_events.specs.declared.events.Seen.TheVariants.{Bool as Saw,
 ghost use Rattle.lot_core.specs.Steps.{SaysMore, first as first_of};
 ghost use Rattle.lot_rights.specs.declared.views.Access.TheVariants.{Makes};
 ghost use Rattle.lot_words.specs.World.{Holds, HoldsParked};
-ghost use Rattle.lot_words.specs.Values.{IsIn, IsOut, HasSeen, MayLeave, MayLie, IsAtHome, in_slot, place_of};
+ghost use Rattle.lot_words.specs.Values.{IsIn, IsOut, HasSeen, MayBecome, MayLie, IsAtHome, in_slot, place_of};
 ghost use Rattle.lot_words.specs.Calls.{finding_parked, letting_go, passed_root, word_left};
 ghost use Rattle.lot_words.specs.declared.views.Place.{Place};
 ghost use Rattle.lot_words.specs.declared.views.Place.TheVariants.{InSlot, Out};
@@ -122,7 +122,7 @@ impl<V: Keeps> LotWords<V> {
         requires table { pass.table ≡ self.now.table }
         requires key { key < self.now.size.locks }
         requires holds { Holds pass.own.locks key × IsOut pass.own.locks key }
-        requires lawful { (x : V) × HasSeen pass.own.locks key x × MayLeave V.Keeps key pass.thread x value }
+        requires lawful { (x : V) × HasSeen pass.own.locks key x × MayBecome V.Keeps key pass.thread x value }
         ensures pass { (result.table ≡ pass.table)
             × (result ≡ record pass { own = placed_in pass.own key (InSlot value) }) }
         ensures lies { IsIn result.own.locks key value }

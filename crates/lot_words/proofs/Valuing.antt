@@ -14,7 +14,7 @@ use Rattle.lot_words.specs.declared.views.Place.{Place}
 use Rattle.lot_words.specs.declared.views.Place.TheVariants.{InSlot}
 use Rattle.lot_words.specs.CallersRule.{CallersRule}
 use Rattle.lot_words.specs.World.{IsHeld, Holds}
-use Rattle.lot_words.specs.Values.{home_of, IsIn, HasSeen, MayLeave, MayLie, FoundOk, OwnerOk, SeenOk, ValueOk, IsLawful}
+use Rattle.lot_words.specs.Values.{home_of, IsIn, HasSeen, MayBecome, MayLie, FoundOk, OwnerOk, SeenOk, ValueOk, IsLawful}
 use Rattle.lot_words.specs.Calls.{owning, letting_go, placing}
 
 -- two passes know the same of the lock k
@@ -153,7 +153,7 @@ module _ {V Part : Type 0} (rule : CallersRule V Part) where
             let seen : HasSeen p l y = set_here (pass t).seen l y in_seen in
             let o = e.owned t holds in
             let is : o.place ≡ InSlot y = some-injective o.place (InSlot y) (sym o.place_is ∙ lies) in
-            let may : MayLeave rule l t x y = subst (MayLie rule l t x) is o.lawful in
+            let may : MayBecome rule l t x y = subst (MayLie rule l t x) is o.lawful in
             changes_at l p homes y
             (λ k ne. record {
               down = λ h. subst IsHeld (get_or-set_other (pass t).holds l k NotHeld NotHeld ne) h;

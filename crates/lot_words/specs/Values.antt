@@ -58,14 +58,15 @@ module _ {V : Type 0} where
     pub seen : HasSeen p l x
 
 module _ {V Part : Type 0} (rule : CallersRule V Part) where
-  -- t may leave the value y in the lock l, where it found x
-  pub record MayLeave (l t : ℕ) (x y : V) : Type 0 where
-    pub kept : rule.keeps l y
-    pub grown : rule.grows x y
-    pub others : (u : ℕ) → u ≢ t → rule.part u x ≡ rule.part u y
+  -- a thread that found the first value in the lock may leave the second: it keeps the rule, has grown, and has each
+  -- other thread's part
+  pub record MayBecome (key thread : ℕ) (found left : V) : Type 0 where
+    pub kept : rule.keeps key left
+    pub grown : rule.grows found left
+    pub others : (t : ℕ) → t ≢ thread → rule.part t found ≡ rule.part t left
 
   abbrev pub MayLie : ℕ → ℕ → V → Place V → Type 0
-  MayLie l t x (InSlot y) = MayLeave l t x y
+  MayLie l t x (InSlot y) = MayBecome l t x y
   MayLie l t x Out = Unit {0}
   MayLie l t x Moving = Unit {0}
 

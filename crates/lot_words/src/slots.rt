@@ -3,7 +3,7 @@ ghost use Rattle.std.specs.Prelude.{◌≡◌, ◌<◌};
 ghost use mathlib.Core.Option.{some};
 ghost use lib.ListN.{get_elem?};
 ghost use Rattle.lot_words.specs.World.{Holds};
-ghost use Rattle.lot_words.specs.Values.{IsIn, IsOut, HasSeen, MayLeave, MayLie, IsAtHome, in_slot, place_of};
+ghost use Rattle.lot_words.specs.Values.{IsIn, IsOut, HasSeen, MayBecome, MayLie, IsAtHome, in_slot, place_of};
 ghost use Rattle.lot_words.specs.Calls.{placing};
 ghost use Rattle.lot_words.specs.declared.views.Place.{Place};
 ghost use Rattle.lot_words.specs.declared.views.Place.TheVariants.{InSlot, Out};
@@ -38,7 +38,7 @@ impl<V: Keeps> LockWords<V> {
         requires table { pass.table ≡ self.now.table }
         requires key { key < self.now.size.locks }
         requires holds { Holds pass.own key × IsOut pass.own key }
-        requires lawful { (x : V) × HasSeen pass.own key x × MayLeave V.Keeps key pass.thread x value }
+        requires lawful { (x : V) × HasSeen pass.own key x × MayBecome V.Keeps key pass.thread x value }
         ensures pass { (result.table ≡ pass.table)
             × (result ≡ record pass { own = placing pass.own key (InSlot value) }) }
         ensures lies { IsIn result.own key value }

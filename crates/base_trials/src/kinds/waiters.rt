@@ -3,7 +3,7 @@ ghost use Rattle.std.specs.Prelude.{◌≡◌, ◌+◌, ◌<◌, ◌≤◌, ◌+
 ghost use Rattle.std.specs.Prelude.{vec_len, vec_capacity, IfOk};
 ghost use Rattle.lot_waits.specs.Counts.{CountsView, called_more, one_wait_more};
 ghost use Rattle.lot_whole.specs.Standing.{IsIdle};
-ghost use Rattle.lot_waits.specs.Ledger.{AreTallied, AreZeros};
+ghost use Rattle.lot_waits.specs.Ledger.{AreBothSums, AreZeros};
 ghost use Rattle.lot_waits.specs.Notifying.{NotifiesAll, HasTaken};
 ghost use Rattle.base_trials.specs.Calm.{IsCalm};
 ghost use Rattle.base_trials.specs.Opened.{AreDealt, AreRootsBack, IsUntouched, size_of};
@@ -135,10 +135,10 @@ pub(crate) fn deal_waiters<N: LotName<Tally>>(
 
 // Adds to the sums what is kept of the waiter's counts.
 fn added<N: LotName<Tally>>(sums: &mut Tallies, waiter: CountedPass<N>) -> Pass<N>
-    requires { (waiters : List CountsView) × AreTallied N.locks N.conds waiters sums.old }
+    requires { (waiters : List CountsView) × AreBothSums N.locks N.conds waiters sums.old }
     ensures calm { IsCalm waiter.thread result }
-    ensures sums { (waiters : List CountsView) → AreTallied N.locks N.conds waiters sums.old
-        → AreTallied N.locks N.conds (waiters ++ waiter ∷ []) sums.new }
+    ensures sums { (waiters : List CountsView) → AreBothSums N.locks N.conds waiters sums.old
+        → AreBothSums N.locks N.conds (waiters ++ waiter ∷ []) sums.new }
 {
     let CountedPass { pass, tallies } = waiter;
     add_up(sums, &*tallies);

@@ -1,7 +1,8 @@
 use Rattle.std.proofs.Common.{sym, ap, subst, ◌∙◌}
 use Rattle.lot_sync.specs.Lot.{PassView}
 use Rattle.lot_sync.proofs.Below.{got_below}
-use Rattle.lot_calls.specs.Visits.{MayBecome, VisitsBoth}
+use Rattle.lot_words.specs.Values.{MayBecome}
+use Rattle.lot_calls.specs.Visits.{VisitsBoth}
 use Rattle.lot_calls.proofs.Visiting.{visit_made}
 use Rattle.lot_calls.proofs.Nesting.{finds_both, back_second, back_first, visits_both, free_after_both, nested_made}
 use Rattle.lot_calls.proofs.both.with_two.Goals as goal

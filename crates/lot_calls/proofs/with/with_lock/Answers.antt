@@ -1,7 +1,8 @@
 use Rattle.std.proofs.Common.{rules, subst, sym, ap}
 use Rattle.lot_sync.specs.Lot.{PassView}
 use Rattle.lot_sync.proofs.Holdings.{may_go_back}
-use Rattle.lot_calls.specs.Visits.{Finds, MayBecome}
+use Rattle.lot_words.specs.Values.{MayBecome}
+use Rattle.lot_calls.specs.Visits.{Finds}
 use Rattle.lot_calls.proofs.Visiting.{visits, visit_made, finds_got}
 use Rattle.lot_calls.proofs.with.with_lock.Goals as goal
 

@@ -5,7 +5,7 @@ use Rattle.std.proofs.lemmas.List.Elements.{All-push}
 use Rattle.lot_rights.proofs.Gathers.{all_popped}
 use Rattle.lot_rights.proofs.Turns.{moves_on, map_turned, no_elements}
 use Rattle.lot_waits.specs.Counts.{CountsView, AreKept, counts_in, counts_shown}
-use Rattle.lot_waits.specs.Ledger.{AreTallied}
+use Rattle.lot_waits.specs.Ledger.{AreBothSums}
 use Rattle.lot_waits.specs.declared.tallies.Tallies.{Tallies}
 use Rattle.lot_waits.proofs.Sums.{tallied_turned}
 use Rattle.lot_sync.specs.Lot.{OwnsNone}
@@ -40,7 +40,7 @@ loop-pass-preserved g c =
           (All-push (IsFree g.N.Name.opening.locks) c.loop-pass.rights.items right inv.taken
           (free_of _ _ g.N.Name.opening.locks c.in-Some.pass stood right c.apart-right.ensures.same c.into_pass.ensures.same
           c.into_pass.ensures.named c.apart-right.ensures.rest parts.1));
-      tallied = subst (λ qs. AreTallied g.N.LotName.locks g.N.LotName.conds qs c.add_up.new.sums) (sym counted)
+      tallied = subst (λ qs. AreBothSums g.N.LotName.locks g.N.LotName.conds qs c.add_up.new.sums) (sym counted)
           (c.add_up.ensures g.N.LotName.locks g.N.LotName.conds before (counts_in stood) inv.tallied kept);
       count = omega (arith, c.in-Some.ensures.len, c.push_reserved.ensures.len, inv.count);
       fits = omega (arith, c.push_reserved.ensures.capacity, inv.fits);
@@ -58,6 +58,6 @@ pub returns-clause-tallied : goal.returns-clause-tallied
 returns-clause-tallied g c =
     let turned : map counts_shown c.reverse.new.self.items ≡ reverse (map counts_shown c.loop-pass.rights.items) =
     ap (map counts_shown) c.reverse.ensures.items ∙ map_turned counts_shown c.loop-pass.rights.items in
-    subst (λ qs. AreTallied g.N.LotName.locks g.N.LotName.conds qs c.loop-pass.sums) (sym turned)
+    subst (λ qs. AreBothSums g.N.LotName.locks g.N.LotName.conds qs c.loop-pass.sums) (sym turned)
     (tallied_turned g.N.LotName.locks g.N.LotName.conds
     (map counts_shown c.loop-pass.rights.items) c.loop-pass.sums c.loop-pass.invariant.tallied)

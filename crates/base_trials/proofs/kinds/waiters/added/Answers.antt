@@ -1,6 +1,6 @@
 use Rattle.std.proofs.Common.{◌++◌, [], ◌∷◌, sym, subst}
 use Rattle.lot_waits.specs.Counts.{CountsView, AreKept, counts_in}
-use Rattle.lot_waits.specs.Ledger.{AreTallied}
+use Rattle.lot_waits.specs.Ledger.{AreBothSums}
 use Rattle.lot_waits.specs.declared.tallies.Tallies.{Tallies}
 use Rattle.base_trials.proofs.kinds.waiters.added.Goals as goal
 
@@ -11,5 +11,5 @@ returns-clause-sums g c = λ waiters tallied.
     let counts : CountsView = counts_in c.waiter.inside.pass in
     let kept = subst (λ (t : Tallies). AreKept locks conds counts t.called.items t.woken.items) (sym c.deref.ensures)
     c.waiter.invariant.1 in
-    subst (λ (q : CountsView). AreTallied locks conds (waiters ++ q ∷ []) c.add_up.new.sums) c.waiter.view_is
+    subst (λ (q : CountsView). AreBothSums locks conds (waiters ++ q ∷ []) c.add_up.new.sums) c.waiter.view_is
     (c.add_up.ensures locks conds waiters counts tallied kept)

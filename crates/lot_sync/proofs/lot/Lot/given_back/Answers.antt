@@ -1,5 +1,5 @@
 use Rattle.std.proofs.Common.{subst, sym, arith}
-use Rattle.lot_words.specs.Values.{IsIn, HasSeen, MayLeave}
+use Rattle.lot_words.specs.Values.{IsIn, HasSeen, MayBecome}
 use Rattle.lot_sync.specs.Lot.{Owns}
 use Rattle.lot_sync.specs.Values.{MayGiveBack}
 use Rattle.lot_sync.proofs.Rests.{may_leave, owns_again, lies_in, owned_held}
@@ -17,7 +17,7 @@ value_in-right-requires-clause-lawful g c =
     let same = c.parking.ensures.keys.0 in
     let near = c.requires.key.1 in
     subst (λ v. (x : _) × HasSeen c.apart-right.result.0.own.locks c.args.key x
-    × MayLeave g.V.Keeps c.args.key c.apart-right.result.0.thread x v) (sym c.into_value.ensures)
+    × MayBecome g.V.Keeps c.args.key c.apart-right.result.0.thread x v) (sym c.into_value.ensures)
     (may_leave g.V.Keeps _ c.apart-right.result.0 c.args.held c.args.key c.requires.key.0
     (omega (arith, same, near)) c.apart-right.ensures.rest
     (subst (λ p. MayGiveBack g.V.Keeps p c.args.held) c.apart-right.ensures.same c.requires.back))
