@@ -81,13 +81,19 @@ impl Summary {
                 summary.times.add(&one.times);
             }
         }
+        summary.nanos = end.saturating_sub(begin);
+        summary.note_shares(&done);
+        Ok(summary)
+    }
+
+    /// Notes what each thread made of all rounds.
+    fn note_shares(&mut self, done: &Vec<Option<Done>>) {
+        let all = self.all;
         for one in done.iter() {
             if let Some(one) = one {
-                summary.shares.note(one.rounds, summary.all);
+                self.shares.note(one.rounds, all);
             }
         }
-        summary.nanos = end.saturating_sub(begin);
-        Ok(summary)
     }
 
     /// The line, after the words of the command.
