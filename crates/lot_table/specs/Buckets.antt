@@ -8,6 +8,11 @@ use Rattle.lot_bucket.specs.KeyLine.{KeyLine}
 use Rattle.lot_bucket.specs.Agrees.{AgreesOpen, AgreesClosed}
 use Rattle.lot_bucket.specs.Settled.{IsLaidOut, IsWhole}
 
+-- how a row of buckets was before its lines and roots were moved, and how the row to which they came was after it
+pub record Rows (R : Type 0) : Type 0 where
+  pub before : List (Contents R)
+  pub after : List (Contents R)
+
 module _ {R : Type 0} where
   -- the bucket of key k; b stands for it where there are no buckets
   abbrev pub bucket_of : ℕ → List (Contents R) → Contents R → Contents R
@@ -23,6 +28,12 @@ module _ {R : Type 0} where
       (k : ℕ) (b : Contents R)
       → (line_of k (bucket_of k after b).queue ≡ line_of k (bucket_of k before b).queue)
       × (root_at k (bucket_of k after b).places ≡ root_at k (bucket_of k before b).places)
+
+  -- all was moved from a row of so many buckets to one of so many
+  pub record IsMove (before after : ℕ) (rows : Rows R) : Type 0 where
+    pub before_len : length rows.before ≡ before
+    pub after_len : length rows.after ≡ after
+    pub lines : KeepsLines rows.before rows.after
 
   -- a new bucket of a table: closed and empty, with the keys of its number, and room for so many threads
   pub record IsFresh (size number keys threads : ℕ) (b : Contents R) : Type 0 where

@@ -2,15 +2,15 @@
 
 ghost use Rattle.std.specs.Prelude.{◌≡◌, ℕ, ◌<◌, ◌≤◌, true, false, [], length, IsTrue, IfOk, IfErr, MatchOption};
 ghost use Rattle.std.specs.Prelude.{vec_len, vec_capacity};
-ghost use Rattle.lot_table.specs.Buckets.{queued, AreFresh, AreWhole};
+ghost use Rattle.lot_table.specs.Buckets.{queued, AreFresh, AreWhole, KeepsLines, AreFilled, IsMove};
 ghost use Rattle.lot_table.specs.Tables.{under};
 
 use crate::cells::{Found, Growing, Unset, publish};
 use crate::closing::spend_empty;
 use crate::fresh::{discard_all, fresh_buckets};
-use crate::moves::{Moved, regrow};
+use crate::moves::move_rows;
 use crate::sizes::TableFault;
-use crate::version::Version;
+use crate::version::{Filled, Version};
 use lot_bucket::{Bucket, Root, Settled};
 use std::alloc::Global;
 use std::sync::{MutexGuard, Wait};
@@ -43,11 +43,12 @@ impl Grower {
         keys: usize,
         threads: usize,
         growing: &mut Growing,
-    ) -> Result<Option<(Found<'a, R>, Moved)>, TableFault>
+    ) -> Result<Option<(Found<'a, R>, Filled<R>)>, TableFault>
         requires size { 0 < size }
         requires first { growing.old.has_grown ≡ false }
         ensures published { IfOk result (λ r. MatchOption r (growing.new.has_grown ≡ false)
-            (λ f. (growing.new.has_grown ≡ true) × (f.0.token.of ≡ next.now.id) × (f.0.version.now.size ≡ size))) }
+            (λ f. (growing.new.has_grown ≡ true) × (f.0.token.of ≡ next.now.id) × (f.0.version.now.size ≡ size)
+            × IsMove version.now.size size f.1)) }
         ensures refused { IfErr result (λ e. growing.new.has_grown ≡ false) }
     {
         let supplies = supplies_for(rt, self.alloc, version.size(), size, keys, threads)?;
@@ -131,13 +132,14 @@ fn grow_with<'a, 'b, W: Wait, R: Root>(
     keys: usize,
     threads: usize,
     growing: &mut Growing,
-) -> Option<(Found<'a, R>, Moved)>
+) -> Option<(Found<'a, R>, Filled<R>)>
     requires guards { (vec_len supplies.guards ≡ 0) × (version.now.size ≤ vec_capacity supplies.guards) }
     requires old { (supplies.old.items ≡ []) × (version.now.size ≤ vec_capacity supplies.old) }
     requires fresh { AreFresh keys threads supplies.fresh.items × (vec_len supplies.fresh ≡ supplies.grown.size) }
     requires first { growing.old.has_grown ≡ false }
     ensures { MatchOption result (growing.new.has_grown ≡ false) (λ f. (growing.new.has_grown ≡ true)
-        × (f.0.token.of ≡ next.now.id) × (f.0.version.now.size ≡ supplies.entry.grown.size)) }
+        × (f.0.token.of ≡ next.now.id) × (f.0.version.now.size ≡ supplies.entry.grown.size)
+        × IsMove version.now.size supplies.entry.grown.size f.1) }
 {
     let Supplies {
         mut guards,
@@ -152,8 +154,8 @@ fn grow_with<'a, 'b, W: Wait, R: Root>(
     }
     match publish(next, grown, growing) {
         Ok(found) => {
-            let moved = move_over(rt, alloc, guards, old, fresh, found.version, keys);
-            Some((found, moved))
+            let filled = move_over(rt, alloc, guards, old, fresh, found.version, keys);
+            Some((found, filled))
         }
         Err(back) => {
             abandon(rt, guards, old, fresh, back);
@@ -206,22 +208,26 @@ fn move_over<W: Wait, R: Root>(
     fresh: Vec<Bucket<R>>,
     published: &Version<R>,
     keys: usize,
-) -> Moved
+) -> Filled<R>
     requires some { 0 < vec_len guards }
     requires whole { AreWhole R.view keys (under guards.items) }
     requires old { (old.items ≡ []) × (vec_len guards ≤ vec_capacity old) }
     requires fresh { (threads : ℕ) × AreFresh keys threads fresh.items × (queued (under guards.items) ≤ threads) }
     requires sizes { vec_len fresh ≡ published.now.size }
+    ensures from { result.before ≡ under guards.entry.items }
+    ensures count { length result.after ≡ published.now.size }
+    ensures lines { KeepsLines (under guards.entry.items) result.after }
+    ensures filled { AreFilled R.view keys result.after }
 {
     let mut guards = guards;
     let mut old = old;
     let mut fresh = fresh;
     prove!(published.size() > 0);
     take_out(alloc, guards.as_mut_slice(), &mut old);
-    let moved = regrow(old.as_mut_slice(), fresh.as_mut_slice());
-    published.fill(rt, fresh, keys);
+    let rows = move_rows(&mut old, &mut fresh);
+    let filled = published.fill(rt, fresh, keys, rows);
     spend_empty(old);
-    moved
+    filled
 }
 
 // Takes the buckets out from under their locks, and leaves closed, empty ones.

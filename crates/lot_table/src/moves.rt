@@ -1,11 +1,13 @@
 //! The move of lines and roots to the buckets of a larger table.
 
-ghost use Rattle.std.specs.Prelude.{◌≡◌, ℕ, ◌+◌, ◌<◌, ◌≤◌, true, ◌++◌, None, IsSome, length, map};
+ghost use Rattle.std.specs.Prelude.{◌≡◌, ℕ, ◌+◌, ◌<◌, ◌≤◌, true, ◌++◌, None, IsSome, length, map, vec_len};
 ghost use Rattle.lot_bucket.specs.Queue.{line_of, without_key};
 ghost use Rattle.lot_bucket.specs.Places.{has_key, root_at, with_root};
 ghost use Rattle.lot_table.specs.Buckets.{KeepsLines, AreWhole, AreFilled, AreEmpty, MayRegrow};
 
 use lot_bucket::{Bucket, Moment, Root};
+use std::marker::Model;
+use std::snapshot::Snapshot;
 
 // A moment at which it is not yet time to be fair, whatever the bucket.
 const NEVER: Moment = Moment { now: 0, word: 0 };
@@ -13,6 +15,42 @@ const NEVER: Moment = Moment { now: 0, word: 0 };
 /// That all lines and roots were moved. Only `regrow` gives one, and it takes no bytes.
 #[derive(Drop)]
 pub struct Moved(());
+
+/// That all lines and roots were moved from one row of buckets to another: contracts see the one as it was before,
+/// and the other as it was after. Only `move_rows` gives one, and it takes no bytes.
+#[derive(Drop)]
+pub struct MovedRows<R: Root> {
+    moved: Moved,
+    before: Snapshot<Vec<Bucket<R>>>,
+    after: Snapshot<Vec<Bucket<R>>>,
+}
+
+impl<R: Root> Model for MovedRows<R> {
+    ghost use Rattle.lot_table.specs.Buckets.{Rows};
+
+    ghost Value = { Rows R };
+
+    ghost view = { λ m. record { before = m.before.value.items; after = m.after.value.items } };
+}
+
+/// As `regrow`, of two whole rows, and tells which these were.
+pub fn move_rows<R: Root>(old: &mut Vec<Bucket<R>>, new: &mut Vec<Bucket<R>>) -> MovedRows<R>
+    requires { (keys : ℕ) × MayRegrow R.view keys old.old.items new.old.items }
+    ensures before { result.before ≡ old.old.items }
+    ensures after { result.after ≡ new.new.items }
+    ensures len { vec_len new.new ≡ vec_len new.old }
+    ensures lines { KeepsLines old.old.items new.new.items }
+    ensures filled { (keys : ℕ) → AreWhole R.view keys old.old.items → AreFilled R.view keys new.new.items }
+    ensures left { AreEmpty R.view old.new.items }
+{
+    let before = Snapshot::of(&*old);
+    let moved = regrow(old.as_mut_slice(), new.as_mut_slice());
+    MovedRows {
+        moved,
+        before,
+        after: Snapshot::of(&*new),
+    }
+}
 
 /// Moves each key's line and root from the buckets of a table to those of a larger one, as WTF's ParkingLot
 /// does when it rehashes. Each line keeps its order.

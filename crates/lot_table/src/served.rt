@@ -1,10 +1,11 @@
 //! What a table answers that was asked to serve so many threads.
 
 ghost use Rattle.std.specs.Prelude.{◌≡◌, true, false, Some};
+ghost use Rattle.lot_table.specs.Buckets.{IsMove};
 
 use crate::cells::{Found, Growing};
-use crate::moves::Moved;
 use crate::sizes::Grown;
+use crate::version::Filled;
 use crate::versions::Newest;
 use lot_bucket::Root;
 use std::marker::Model;
@@ -44,12 +45,13 @@ impl Served {
         before: usize,
         _published: &Found<'_, R>,
         after: usize,
-        _moved: Moved,
+        _filled: Filled<R>,
         _growing: Growing,
     ) -> Served
         requires before { before ≡ _newest.now.version.now.size }
         requires after { after ≡ _published.now.version.now.size }
         requires next { (cell : _) × (_newest.now.next ≡ Some cell) × (_published.now.token.of ≡ cell.id) }
+        requires moved { IsMove before after _filled }
         requires grown { _growing.has_grown ≡ true }
         ensures { result ≡ Grew before after }
     {

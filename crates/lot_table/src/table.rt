@@ -4,18 +4,17 @@ ghost use Rattle.std.specs.Sync.Mutex.{mutex_guard_value};
 ghost use Rattle.lot_bucket.specs.Settled.{IsReady, HasPlaceFor, Stays};
 ghost use Rattle.lot_table.specs.Roots.{AreIdle, Appends};
 ghost use Rattle.lot_table.specs.Sizes.{Serves, grown_size_of, first_size_of};
-ghost use Rattle.lot_table.specs.Buckets.{AreFresh, AreFilled};
+ghost use Rattle.lot_table.specs.Buckets.{AreFresh, AreFilled, IsMove};
 ghost use Rattle.lot_table.specs.declared.sizes.TheConstants.{MOST_THREADS, MOST_VERSIONS};
 
 use crate::cells::{Found, Growing};
 use crate::closing::Closing;
 use crate::fresh::fresh_buckets;
 use crate::growth::Grower;
-use crate::moves::Moved;
 use crate::served::Served;
 use crate::sizes::{MOST_THREADS, MOST_VERSIONS, TableFault, first_size, grown_size};
 use crate::slot::Slot;
-use crate::version::Version;
+use crate::version::{Filled, Version};
 use crate::versions::{Newest, Versions};
 use lot_bucket::{Bucket, Root, Settled};
 use std::alloc::Global;
@@ -219,8 +218,8 @@ impl<R: Root> Table<R> {
             if grown == size {
                 return Ok(Served::kept(&newest, size, growing));
             }
-            if let Some((found, moved)) = self.grow_to(rt, &newest, grown, &mut growing)? {
-                return Ok(Served::grew(&newest, size, &found, grown, moved, growing));
+            if let Some((found, filled)) = self.grow_to(rt, &newest, grown, &mut growing)? {
+                return Ok(Served::grew(&newest, size, &found, grown, filled, growing));
             }
             thread::yield_now();
         }
@@ -234,12 +233,13 @@ impl<R: Root> Table<R> {
         newest: &Newest<'a, R>,
         size: usize,
         growing: &mut Growing,
-    ) -> Result<Option<(Found<'a, R>, Moved)>, TableFault>
+    ) -> Result<Option<(Found<'a, R>, Filled<R>)>, TableFault>
         requires size { 0 < size }
         requires first { growing.old.has_grown ≡ false }
         ensures published { IfOk result (λ r. MatchOption r (growing.new.has_grown ≡ false)
             (λ f. (growing.new.has_grown ≡ true) × (f.0.version.now.size ≡ size)
-            × ((cell : _) × (newest.now.next ≡ Some cell) × (f.0.token.of ≡ cell.id)))) }
+            × ((cell : _) × (newest.now.next ≡ Some cell) × (f.0.token.of ≡ cell.id))
+            × IsMove newest.now.version.now.size size f.1)) }
         ensures refused { IfErr result (λ e. growing.new.has_grown ≡ false) }
     {
         let Some(next) = &newest.next else {

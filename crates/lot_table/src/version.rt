@@ -1,15 +1,30 @@
 //! One version of a table.
 
-ghost use Rattle.std.specs.Prelude.{◌≡◌, ◌<◌, ◌≤◌, [], IfOk, vec_len, vec_capacity};
+ghost use Rattle.std.specs.Prelude.{◌≡◌, ◌<◌, ◌≤◌, [], IfOk, length, vec_len, vec_capacity};
 ghost use Rattle.lot_bucket.specs.Settled.{IsWhole};
 ghost use Rattle.lot_table.specs.Buckets.{AreWhole, AreFilled};
 
+use crate::moves::MovedRows;
 use crate::sizes::TableFault;
 use crate::slot::Slot;
 use lot_bucket::{Bucket, Root, Settled};
 use std::alloc::Global;
 use std::marker::Model;
 use std::sync::Wait;
+
+/// That the buckets to which all lines and roots were moved lie behind the locks of a version. Only `fill` gives one.
+#[derive(Drop)]
+pub struct Filled<R: Root> {
+    rows: MovedRows<R>,
+}
+
+impl<R: Root> Model for Filled<R> {
+    ghost use Rattle.lot_table.specs.Buckets.{Rows};
+
+    ghost Value = { Rows R };
+
+    ghost view = { λ f. f.rows };
+}
 
 /// The buckets of one version, each behind the lock of its number.
 ///
@@ -105,10 +120,20 @@ impl<R: Root> Version<R> {
         true
     }
 
-    /// Opens the new buckets, and puts each behind its lock, where a closed bucket lies that is spent.
-    pub fn fill<W: Wait>(&self, rt: &W, fresh: Vec<Bucket<R>>, keys: usize)
+    /// Opens the new buckets, those to which all was moved, and puts each behind its lock, where a closed bucket lies
+    /// that is spent.
+    pub fn fill<W: Wait>(
+        &self,
+        rt: &W,
+        fresh: Vec<Bucket<R>>,
+        keys: usize,
+        rows: MovedRows<R>,
+    ) -> Filled<R>
         requires count { self.now.size ≡ vec_len fresh }
         requires filled { AreFilled R.view keys fresh.items }
+        requires moved { rows.after ≡ fresh.items }
+        ensures rows { result ≡ rows }
+        ensures count { length result.after ≡ self.now.size }
     {
         let size = fresh.len();
         let mut fresh = fresh;
@@ -119,6 +144,7 @@ impl<R: Root> Version<R> {
             spend(rt, self.lock_of(number).put(rt, settled));
         }
         fresh.destroy_empty();
+        Filled { rows }
     }
 
     /// Takes all buckets out from under their locks, into `row`. That they are open is known by nothing but

@@ -1,6 +1,29 @@
-use Rattle.std.proofs.Common.{refl}
+use Rattle.std.proofs.Common.{refl, ◌≡◌, List, length, arith, ap, ◌∙◌}
+use Rattle.lot_bucket.specs.Contents.{Contents}
+use Rattle.lot_table.specs.Tables.{Extent}
+use Rattle.lot_table.proofs.Guarding.{length-under}
 use Rattle.lot_table.proofs.growth.grow_with.Goals as goal
 
-pub move_over-moved-requires-clause-fresh : goal.move_over-moved-requires-clause-fresh
-move_over-moved-requires-clause-fresh g c κs within =
+pub move_over-filled-requires-clause-fresh : goal.move_over-filled-requires-clause-fresh
+move_over-filled-requires-clause-fresh g c κs within =
     (c.args.threads, c.requires.fresh.0, rw (← c.as_slice.ensures.value) (c.if-not-are_whole.ensures.few refl))
+
+pub returns-in-Ok : goal.returns-in-Ok
+returns-in-Ok g c =
+    let size : c.in-Ok.found.version.now.size ≡ c.args.supplies.grown.size = ap (λ (v : Extent). v.size) c.in-Ok.ensures.published.1 in (
+      c.in-Ok.ensures.grown,
+      c.in-Ok.ensures.published.0,
+      size,
+      record {
+        before_len =
+            omega (
+              arith,
+              ap (λ (bs : List (Contents g.row.R.Denot)). length bs) c.move_over-filled.ensures.from,
+              length-under c.lock_all.new.guards.items,
+              c.lock_all.new.guards.ok.0,
+              c.lock_all.ensures.len,
+            );
+        after_len = c.move_over-filled.ensures.count ∙ size;
+        lines = rw c.move_over-filled.ensures.from c.move_over-filled.ensures.lines;
+      },
+    )

@@ -1,23 +1,22 @@
-use Rattle.std.proofs.Common.{◌≡◌, List, length, drop, arith, sym, ◌∙◌, ap, subst}
+use Rattle.std.proofs.Common.{◌≡◌, List, length, arith, sym, ◌∙◌, ap, subst}
 use Rattle.lot_bucket.specs.Contents.{Contents}
-use Rattle.lot_table.specs.Buckets.{AreWhole, AreFresh}
+use Rattle.lot_table.specs.Buckets.{AreWhole, Rows}
 use Rattle.lot_table.specs.Tables.{under}
-use Rattle.lot_table.proofs.Guarding.{lent_whole, length-under}
+use Rattle.lot_table.proofs.Guarding.{length-under}
 use Rattle.lot_table.proofs.growth.move_over.Given.{Over}
-use Rattle.lot_table.proofs.growth.move_over.Goals.{After-as_mut_slice-3}
+use Rattle.lot_table.proofs.growth.move_over.Goals.{After-take_out, After-fill-filled}
 use Rattle.lot_table.proofs.growth.move_over.Goals as goal
 
 -- what was taken out from under the locks is what was looked at
-taken : (g : Over) (c : After-as_mut_slice-3 g) → c.as_mut_slice-2.result.now ≡ under c.args.guards.items
-taken g c = c.as_mut_slice-2.ensures.value ∙ c.take_out.ensures ∙ ap (λ gs. under gs) c.as_mut_slice.ensures.value
+taken : (g : Over) (c : After-take_out g) → c.take_out.new.old.items ≡ under c.args.guards.items
+taken g c = c.take_out.ensures ∙ ap (λ gs. under gs) c.as_mut_slice.ensures.value
 
-whole : (g : Over) (c : After-as_mut_slice-3 g) → AreWhole g.R.Root.view c.args.keys c.as_mut_slice-2.result.now
+whole : (g : Over) (c : After-take_out g) → AreWhole g.R.Root.view c.args.keys c.take_out.new.old.items
 whole g c = subst (λ (bs : List (Contents g.row.R.Denot)). AreWhole g.R.Root.view c.args.keys bs) (sym (taken g c)) c.requires.whole
 
-pub regrow-moved-requires-after_bounds : goal.regrow-moved-requires-after_bounds
-regrow-moved-requires-after_bounds g c κs within =
-    let at = (goal.at.regrow-moved-requires-after_bounds g c).After-as_mut_slice-3 in
-    let fresh = c.as_mut_slice-3.ensures.value in (
+pub move_rows-rows-requires-after_bounds : goal.move_rows-rows-requires-after_bounds
+move_rows-rows-requires-after_bounds g c κs within =
+    let at = (goal.at.move_rows-rows-requires-after_bounds g c).After-take_out in (
       c.args.keys,
       record {
         few = omega arith;
@@ -29,24 +28,33 @@ regrow-moved-requires-after_bounds g c κs within =
               c.args.guards.ok.0,
               c.requires.some,
             );
-        some_new = omega (arith, c.as_mut_slice-3.ensures.len, c.requires.sizes, c.size.ensures.count, c.size.ensures.some);
+        some_new = omega (arith, c.args.fresh.ok.0, c.requires.sizes, c.size.ensures.count, c.size.ensures.some);
         whole = whole g at;
         threads = c.requires.fresh.0;
-        fresh = subst (λ (bs : List (Contents g.row.R.Denot)). AreFresh c.args.keys c.requires.fresh.0 bs) (sym fresh) c.requires.fresh.1;
+        fresh = c.requires.fresh.1;
         room = rw (taken g at) c.requires.fresh.2;
       },
     )
 
-pub fill-requires-clause-filled : goal.fill-requires-clause-filled
-fill-requires-clause-filled g c κs within =
-    let at = (goal.at.fill-requires-clause-filled g c).After-as_mut_slice-3 in
-    let count : length c.regrow-moved.new.new ≡ c.args.fresh.len = omega (arith, c.regrow-moved.auto.new, c.as_mut_slice-3.ensures.len) in
-    rw (lent_whole c.args.fresh.len c.regrow-moved.new.new (drop (length c.regrow-moved.new.new) c.args.fresh.items) count)
-    (c.regrow-moved.ensures.filled c.args.keys (whole g at))
+pub fill-filled-requires-clause-filled : goal.fill-filled-requires-clause-filled
+fill-filled-requires-clause-filled g c κs within =
+    c.move_rows-rows.ensures.filled c.args.keys (whole g (goal.at.fill-filled-requires-clause-filled g c).After-take_out)
 
-pub spend_empty-requires-after_bounds : goal.spend_empty-requires-after_bounds
-spend_empty-requires-after_bounds g c κs within =
-    let count : length c.regrow-moved.new.old ≡ c.take_out.new.old.len =
-    omega (arith, c.regrow-moved.auto.old, c.as_mut_slice-2.ensures.len) in
-    rw (lent_whole c.take_out.new.old.len c.regrow-moved.new.old (drop (length c.regrow-moved.new.old) c.take_out.new.old.items) count)
-    c.regrow-moved.ensures.left
+-- what was filled in is what was moved to
+moved_to : (g : Over) (c : After-fill-filled g) → c.fill-filled.result.after ≡ c.move_rows-rows.new.new.items
+moved_to g c = ap (λ (r : Rows g.row.R.Denot). r.after) c.fill-filled.ensures.rows ∙ c.move_rows-rows.ensures.after
+
+pub returns-clause-from : goal.returns-clause-from
+returns-clause-from g c =
+    ap (λ (r : Rows g.row.R.Denot). r.before) c.fill-filled.ensures.rows ∙ c.move_rows-rows.ensures.before
+    ∙ taken g (goal.at.returns-clause-from g c).After-take_out
+
+pub returns-clause-lines : goal.returns-clause-lines
+returns-clause-lines g c =
+    let at = goal.at.returns-clause-lines g c in
+    rw (moved_to g at.After-fill-filled, ← taken g at.After-take_out) c.move_rows-rows.ensures.lines
+
+pub returns-clause-filled : goal.returns-clause-filled
+returns-clause-filled g c =
+    let at = goal.at.returns-clause-filled g c in
+    rw (moved_to g at.After-fill-filled) (c.move_rows-rows.ensures.filled c.args.keys (whole g at.After-take_out))
