@@ -20,7 +20,7 @@ use Rattle.lot_bucket.proofs.Slots.{rootless}
 use Rattle.lot_bucket.proofs.Laws.{line_of-without_count_same, without_key-without_first, without_key_none, first_of_line}
 use Rattle.lot_bucket.proofs.Laws.{line_of-without_key_same, line_of-without_key_other, line_fits}
 use Rattle.lot_bucket.proofs.Laws.{root_at-with_same, root_at-with_other, has_key-with}
-use Rattle.lot_table.specs.Buckets.{bucket_of, queued, KeepsLines, AreWhole, AreFilled, AreEmpty, MayRegrow}
+use Rattle.lot_table.specs.Buckets.{bucket_of, queued, KeepsLines, AreWhole, AreFilled, AreEmpty, MayRegrow, IsElseAs, AreElseAs}
 
 pub line_of-append : (k : ℕ) (p q : List (ℕ × ℕ)) → line_of k (p ++ q) ≡ line_of k p ++ line_of k q
 line_of-append k [] q = refl
@@ -322,6 +322,32 @@ module _ {R : Type 0} where
     pub left : AreLeft m old0 old
     pub come : (i : ℕ) (d : Contents R) → i < length new0 → HasCome m (length new0) i old0 (get_or new0 i d) (get_or new i d)
     pub all : queued old + queued new ≡ queued old0
+    pub else_old : AreElseAs old0 old
+    pub else_new : AreElseAs new0 new
+
+  else_same : (from b : Contents R) (ps : List (ℕ × Option R)) (q : List (ℕ × ℕ))
+      → b ≡ record from { places = ps; queue = q } → IsElseAs from b
+  else_same from b ps q is =
+      record {
+        room = ap (λ (x : Contents R). x.room) is;
+        opened = ap (λ (x : Contents R). x.opened) is;
+        next_fair = ap (λ (x : Contents R). x.next_fair) is;
+      }
+
+  some_else : (before now : List (Contents R)) (j : ℕ) (r c : Contents R) → length now ≡ length before → j < length before
+      → IsElseAs (get_or now j r) c → AreElseAs before now → AreElseAs before (set now j c)
+  some_else before now j r c len at own so_far i d bound =
+      elim (eqb_tells i j) [
+        | inl e ↦
+            let here = so_far j d at in
+            let it = get_or_default now j r d (omega (arith, len, at)) in
+            rw (e.1, get_or-set_same now j c d (omega (arith, len, at))) (record {
+              room = own.room ∙ ap (λ (x : Contents R). x.room) it ∙ here.room;
+              opened = own.opened ∙ ap (λ (x : Contents R). x.opened) it ∙ here.opened;
+              next_fair = own.next_fair ∙ ap (λ (x : Contents R). x.next_fair) it ∙ here.next_fair;
+            })
+        | inr e ↦ rw (get_or-set_other now j i c d e.1) (so_far i d bound)
+      ]
 
   pub some_come : (m : ℕ) (old0 new0 old new : List (Contents R)) (j : ℕ) (c : Contents R) → j ≡ m % length new0 → j < length new0
       → ((d : Contents R) → HasCome (m + 1) (length new0) j old0 (get_or new0 j d) c)
@@ -436,6 +462,8 @@ module _ {R : Type 0} (view : R → KeyLine) (n : ℕ) (old0 new0 : List (Conten
           no_root = λ k none. (may.fresh i d lt).rootless k;
         };
         all = rw (none_queued new0 (λ i d lt. (may.fresh i d lt).empty)) (omega arith);
+        else_old = λ i d lt. record { room = refl; opened = refl; next_fair = refl };
+        else_new = λ i d lt. record { room = refl; opened = refl; next_fair = refl };
       }
 
   module _ (m : ℕ) (old new : List (Contents R)) (a : AreMoved m old0 new0 old new) where
@@ -525,6 +553,8 @@ module _ {R : Type 0} (view : R → KeyLine) (n : ℕ) (old0 new0 : List (Conten
                 as_many old new (m % length old0) (m % length new0) from to r s b c m (omega (arith, a.old_len, at_old))
                 (omega (arith, a.new_len, at_new)) refl refl
                 (ap (λ (x : Contents R). x.queue) left) (ap (λ (x : Contents R). x.queue) come) ∙ a.all;
+            else_old = some_else old0 old (m % length old0) r b a.old_len at_old (else_same from b _ _ left) a.else_old;
+            else_new = some_else new0 new (m % length new0) s c a.new_len at_new (else_same to c _ _ come) a.else_new;
           }
 
   pub moved_ends : (m : ℕ) (old new : List (Contents R)) → m ≤ n → n ≤ m → AreMoved m old0 new0 old new → AreMoved n old0 new0 old new

@@ -29,6 +29,15 @@ module _ {R : Type 0} where
       → (line_of k (bucket_of k after b).queue ≡ line_of k (bucket_of k before b).queue)
       × (root_at k (bucket_of k after b).places ≡ root_at k (bucket_of k before b).places)
 
+  -- but for its lines and roots a bucket is as it was: its room, whether it is open, and when it is time to be fair
+  pub record IsElseAs (before b : Contents R) : Type 0 where
+    pub room : b.room ≡ before.room
+    pub opened : b.opened ≡ before.opened
+    pub next_fair : b.next_fair ≡ before.next_fair
+
+  abbrev pub AreElseAs : List (Contents R) → List (Contents R) → Type 0
+  AreElseAs before after = (i : ℕ) (b : Contents R) → i < length before → IsElseAs (slice_index_or before i b) (slice_index_or after i b)
+
   -- all was moved from a row of so many buckets to one of so many
   pub record IsMove (before after : ℕ) (rows : Rows R) : Type 0 where
     pub before_len : length rows.before ≡ before

@@ -2,7 +2,7 @@
 
 ghost use Rattle.std.specs.Prelude.{◌≡◌, ℕ, ◌<◌, ◌≤◌, true, false, [], length, IsTrue, IfOk, IfErr, MatchOption};
 ghost use Rattle.std.specs.Prelude.{vec_len, vec_capacity};
-ghost use Rattle.lot_table.specs.Buckets.{queued, AreFresh, AreWhole, KeepsLines, AreFilled, IsMove};
+ghost use Rattle.lot_table.specs.Buckets.{queued, AreFresh, AreWhole, KeepsLines, AreFilled, IsMove, AreElseAs};
 ghost use Rattle.lot_table.specs.Tables.{under};
 
 use crate::cells::{Found, Growing, Unset, publish};
@@ -218,6 +218,7 @@ fn move_over<W: Wait, R: Root>(
     ensures count { length result.after ≡ published.now.size }
     ensures lines { KeepsLines (under guards.entry.items) result.after }
     ensures filled { AreFilled R.view keys result.after }
+    ensures fresh { AreElseAs fresh.items result.after }
 {
     let mut guards = guards;
     let mut old = old;

@@ -3,7 +3,7 @@
 ghost use Rattle.std.specs.Prelude.{◌≡◌, ℕ, ◌+◌, ◌<◌, ◌≤◌, true, ◌++◌, None, IsSome, length, map, vec_len};
 ghost use Rattle.lot_bucket.specs.Queue.{line_of, without_key};
 ghost use Rattle.lot_bucket.specs.Places.{has_key, root_at, with_root};
-ghost use Rattle.lot_table.specs.Buckets.{KeepsLines, AreWhole, AreFilled, AreEmpty, MayRegrow};
+ghost use Rattle.lot_table.specs.Buckets.{KeepsLines, AreWhole, AreFilled, AreEmpty, MayRegrow, AreElseAs};
 
 use lot_bucket::{Bucket, Moment, Root};
 use std::marker::Model;
@@ -42,6 +42,8 @@ pub fn move_rows<R: Root>(old: &mut Vec<Bucket<R>>, new: &mut Vec<Bucket<R>>) ->
     ensures lines { KeepsLines old.old.items new.new.items }
     ensures filled { (keys : ℕ) → AreWhole R.view keys old.old.items → AreFilled R.view keys new.new.items }
     ensures left { AreEmpty R.view old.new.items }
+    ensures else_old { AreElseAs old.old.items old.new.items }
+    ensures else_new { AreElseAs new.old.items new.new.items }
 {
     let before = Snapshot::of(&*old);
     let moved = regrow(old.as_mut_slice(), new.as_mut_slice());
@@ -62,6 +64,8 @@ pub fn regrow<R: Root>(old: &mut [Bucket<R>], new: &mut [Bucket<R>]) -> Moved
     ensures lines { KeepsLines old.old new.new }
     ensures filled { (keys : ℕ) → AreWhole R.view keys old.old → AreFilled R.view keys new.new }
     ensures left { AreEmpty R.view old.new }
+    ensures else_old { AreElseAs old.old old.new }
+    ensures else_new { AreElseAs new.old new.new }
 {
     let size = old.len();
     let grown = new.len();

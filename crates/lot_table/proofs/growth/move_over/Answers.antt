@@ -58,3 +58,7 @@ pub returns-clause-filled : goal.returns-clause-filled
 returns-clause-filled g c =
     let at = goal.at.returns-clause-filled g c in
     rw (moved_to g at.After-fill-filled) (c.move_rows-rows.ensures.filled c.args.keys (whole g at.After-take_out))
+
+pub returns-clause-fresh : goal.returns-clause-fresh
+returns-clause-fresh g c =
+    rw (moved_to g (goal.at.returns-clause-fresh g c).After-fill-filled) c.move_rows-rows.ensures.else_new

@@ -25,3 +25,9 @@ returns-clause-filled g c keys whole =
 
 pub returns-clause-left : goal.returns-clause-left
 returns-clause-left g c = rw (old_row g c) c.regrow-moved.ensures.left
+
+pub returns-clause-else_old : goal.returns-clause-else_old
+returns-clause-else_old g c = rw (old_row g c, ← c.as_mut_slice.ensures.value) c.regrow-moved.ensures.else_old
+
+pub returns-clause-else_new : goal.returns-clause-else_new
+returns-clause-else_new g c = rw (new_row g c, ← c.as_mut_slice-2.ensures.value) c.regrow-moved.ensures.else_new

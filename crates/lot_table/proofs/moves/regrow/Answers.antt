@@ -34,6 +34,12 @@ pub returns-then-not-has_key-clause-left : goal.returns-then-not-has_key-clause-
 returns-then-not-has_key-clause-left g c =
     moved_empty _ _ _ _ c.requires.1 _ _ (all g c)
 
+pub returns-then-not-has_key-clause-else_old : goal.returns-then-not-has_key-clause-else_old
+returns-then-not-has_key-clause-else_old g c = (all g c).else_old
+
+pub returns-then-not-has_key-clause-else_new : goal.returns-then-not-has_key-clause-else_new
+returns-then-not-has_key-clause-else_new g c = (all g c).else_new
+
 pub move_key-requires-clause-root : goal.move_key-requires-clause-root
 move_key-requires-clause-root g c κs within =
     may_root _ _ _ _ c.requires.1 _ _ _ c.loop-key.invariant.moved c.index-old-key-in-loop-key.result c.index-new-key.result
@@ -84,3 +90,9 @@ returns-clause-filled g c =
 pub returns-clause-left : goal.returns-clause-left
 returns-clause-left g c =
     moved_empty _ _ _ _ c.requires.1 _ _ (last g c)
+
+pub returns-clause-else_old : goal.returns-clause-else_old
+returns-clause-else_old g c = (last g c).else_old
+
+pub returns-clause-else_new : goal.returns-clause-else_new
+returns-clause-else_new g c = (last g c).else_new
