@@ -1,6 +1,7 @@
 -- An unparking of all is one of as many as the lot has threads.
 use Rattle.std.proofs.Common.{◌≡◌, ℕ, ◌≤◌, Bool, List, length, sym, ◌∙◌, ap, subst, arith}
 use Rattle.std.proofs.lemmas.List.{take_all, drop_all}
+use Rattle.lot_bucket.specs.Contents.{Contents}
 use Rattle.lot_bucket.specs.KeyLine.{KeyLine}
 use Rattle.lot_park.specs.Parking.{TellsCount, MayUnparkAll, MayUnparkCount, UnparksAll, UnparksCount, UnparkedAll, UnparkedCount, debts}
 
@@ -9,9 +10,9 @@ taken_all : (threads n : ℕ) (line : List ℕ) (taken : ℕ) (more : Bool) → 
     → TellsCount threads n line taken more → taken ≡ length line
 taken_all threads n line taken more all told = omega (arith, all, told.number, told.short)
 
-pub unparked_all : {R X : Type 0} (view : R → KeyLine) (threads k n : ℕ) (answers : R → ℕ → X × R → Type 0) (result : X × ℕ) → n ≡ threads
-    → UnparkedCount view threads k n (λ root taken more. answers root taken) result → UnparkedAll view k answers result
-unparked_all view threads k n answers result all u =
+pub unparked_all : {R X : Type 0} (view : R → KeyLine) (threads k n : ℕ) (lies : Contents R → Type 0) (answers : R → ℕ → X × R → Type 0)
+    (result : X × ℕ) → n ≡ threads → UnparkedCount view threads k n lies (λ root taken more. answers root taken) result → UnparkedAll view k answers result
+unparked_all view threads k n lies answers result all u =
     record {
       root = u.root;
       answer = u.answer;

@@ -1,7 +1,7 @@
 -- What is known under a bucket's lock while a key's root is out, and after it is back.
 use Rattle.std.proofs.Common.{◌≡◌, ◌≢◌, ℕ, zero, suc, ◌<◌, ◌≤◌, true, false, not, ◌&&◌, cond, Bool, List, [], ◌∷◌, ◌++◌, length, drop, min}
 use Rattle.std.proofs.Common.{Option, Some, None, refl, sym, ◌∙◌, ap, subst, arith}
-use Rattle.std.specs.Prelude.{nat_lt, is_some, ◌==◌}
+use Rattle.std.specs.Prelude.{nat_lt, is_some, ◌==◌, take, if◌then◌else◌}
 use Rattle.std.proofs.lemmas.Bool.{ltb-true, lt-ltb}
 use Rattle.std.proofs.lemmas.List.{drop_all}
 use Rattle.std.proofs.Math.Dec.{eqb-suc-zero}
@@ -11,12 +11,12 @@ use Rattle.lot_bucket.specs.Contents.{Contents}
 use Rattle.lot_bucket.specs.KeyLine.{KeyLine}
 use Rattle.lot_bucket.specs.Agrees.{IsRootOf}
 use Rattle.lot_bucket.specs.Settled.{Stays}
-use Rattle.lot_bucket.specs.Taking.{TakesOne, TakesFirst}
+use Rattle.lot_bucket.specs.Taking.{TakesOne, TakesFirst, fair_after}
 use Rattle.lot_bucket.specs.declared.taking.Moment.{Moment}
 use Rattle.lot_bucket.specs.declared.taking.Dequeued.{Dequeued}
 use Rattle.lot_bucket.proofs.Laws.{line_of-push_same, line_of-push_other, line_of-without_count_same, line_of-without_count_other}
 use Rattle.lot_bucket.proofs.Laws.{has_key-with, root_at-with_same, root_taken, agrees_again}
-use Rattle.lot_park.specs.Parking.{IsOpenFor, Tells, TellsCount}
+use Rattle.lot_park.specs.Parking.{IsOpenFor, Tells, TellsCount, UnparkedOne, UnparkedCount}
 
 empty_of : (xs : List (ℕ × ℕ)) → not (length xs == 0) ≡ false → xs ≡ []
 empty_of [] e = refl
@@ -76,6 +76,52 @@ tells_count k n threads before out after threads_out taken more same short takes
     let left : after.queue ≡ without_count n k out.queue = ap (λ (c : Contents _). c.queue) takes.left in
     rw (sym same) (tells_first threads n (line_of k out.queue) after.queue taken more (rw same short) takes.number takes.others
     (λ e. sym (line_of-without_count_same n k out.queue) ∙ ap (λ q. line_of k q) (sym left ∙ e)))
+
+-- A thread was taken while the root was out, and the root is back: that was taken from the bucket as it was.
+pub took_one : {R : Type 0} (k : ℕ) (moment : Moment) (before out taken after : Contents R) (places : List (ℕ × Option R))
+    (told : Dequeued) → out ≡ record before { places = with_root k None before.places } → TakesOne k moment out taken told
+    → after ≡ record taken { places = places } → TakesOne k moment before (record after { places = before.places }) told
+took_one {R} k moment before out taken after places told took takes put =
+    record {
+      thread = takes.thread ∙ ap (λ q. first_of (line_of k q)) queue;
+      more =
+          takes.more ∙ ap (λ q. is_some (first_of (line_of k q)) && not (length taken.queue == 0)) queue
+          ∙ ap (λ (q : List (ℕ × ℕ)). is_some (first_of (line_of k before.queue)) && not (length q == 0)) rest;
+      fair =
+          takes.fair ∙ ap (λ q. is_some (first_of (line_of k q)) && nat_lt out.next_fair moment.now) queue
+          ∙ ap (λ (c : Contents R). is_some (first_of (line_of k before.queue)) && nat_lt c.next_fair moment.now) took;
+      left =
+          ap (λ (c : Contents R). record c { places = before.places }) put
+          ∙ ap (λ (c : Contents R). record c { places = before.places }) takes.left
+          ∙ ap (λ (c : Contents R). record c {
+            places = before.places;
+            queue = without_first k c.queue;
+            next_fair = (if told.fair then fair_after moment else c.next_fair);
+          }) took;
+    }
+  where
+    queue : out.queue ≡ before.queue
+    queue = ap (λ (c : Contents R). c.queue) took
+
+    rest : taken.queue ≡ after.queue
+    rest = sym (ap (λ (c : Contents R). c.queue) put)
+
+-- the same where at most n were taken, and the bucket was left so
+pub took_count : {R : Type 0} (k n : ℕ) (before taken after : Contents R) (places out : List (ℕ × Option R)) (threads : List ℕ) (count : ℕ)
+    (more : Bool) → threads ≡ take n (line_of k before.queue) → count ≡ min n (length (line_of k before.queue))
+    → more ≡ (nat_lt 0 count && not (length taken.queue == 0))
+    → taken ≡ record before { places = out; queue = without_count n k before.queue } → after ≡ record taken { places = places }
+    → TakesFirst n k before (record after { places = before.places }) threads count more
+took_count {R} k n before taken after places out threads count more line number others left put =
+    record {
+      threads = line;
+      number = number;
+      others =
+          others ∙ ap (λ (q : List (ℕ × ℕ)). nat_lt 0 count && not (length q == 0)) (sym (ap (λ (c : Contents R). c.queue) put));
+      left =
+          ap (λ (c : Contents R). record c { places = before.places }) put
+          ∙ ap (λ (c : Contents R). record c { places = before.places }) left;
+    }
 
 -- the queue after a parking
 abbrev pub joined : Bool → ℕ → ℕ → List (ℕ × ℕ) → List (ℕ × ℕ)
@@ -194,3 +240,42 @@ place_has k places out has same = ap (λ ps. has_key k ps) same ∙ has_key-with
 pub place_empty : {R : Type 0} (k : ℕ) (places out : List (ℕ × Option R)) → has_key k places ≡ true
     → out ≡ with_root k None places → root_at k out ≡ None
 place_empty k places out has same = ap (λ ps. root_at k ps) same ∙ root_at-with_same k None places has
+
+-- what was said of one bucket is said of a bucket of its kind
+module _ {R X : Type 0} (view : R → KeyLine) (k : ℕ) (lies : Contents R → Type 0) (bucket : Contents R) (found : lies bucket) where
+  pub one_found : {T : Type 0} (moment : Moment) (answers : R → Dequeued → X × R × T → Type 0) (result : X × Dequeued)
+      → UnparkedOne view k moment (λ b. b ≡ bucket) answers result → UnparkedOne view k moment lies answers result
+  one_found moment answers result u =
+      record {
+        root = u.root;
+        answer = u.answer;
+        named = u.named;
+        paid = u.paid;
+        told = u.told;
+        called = u.called;
+        same = u.same;
+        bucket = u.bucket;
+        left = u.left;
+        found = subst lies (sym u.found) found;
+        lay = u.lay;
+        took = u.took;
+      }
+
+  pub count_found : (threads n : ℕ) (answers : R → ℕ → Bool → X × R → Type 0) (result : X × ℕ)
+      → UnparkedCount view threads k n (λ b. b ≡ bucket) answers result → UnparkedCount view threads k n lies answers result
+  count_found threads n answers result u =
+      record {
+        root = u.root;
+        more = u.more;
+        answer = u.answer;
+        named = u.named;
+        paid = u.paid;
+        told = u.told;
+        called = u.called;
+        same = u.same;
+        bucket = u.bucket;
+        left = u.left;
+        found = subst lies (sym u.found) found;
+        lay = u.lay;
+        took = u.took;
+      }

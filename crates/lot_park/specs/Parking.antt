@@ -3,10 +3,12 @@
 use Rattle.std.specs.Prelude.{◌≡◌, ℕ, zero, suc, ◌<◌, ◌≤◌, ◌==◌, ◌&&◌, cond, min, Bool, true, false, List, [], ◌∷◌, ◌++◌, take, drop}
 use Rattle.std.specs.Prelude.{length, Option, Some, None, IsSome, MatchBool}
 use Rattle.lot_bucket.specs.Queue.{first_of}
-use Rattle.lot_bucket.specs.Places.{has_key}
+use Rattle.lot_bucket.specs.Places.{has_key, root_at}
 use Rattle.lot_bucket.specs.Contents.{Contents}
 use Rattle.lot_bucket.specs.KeyLine.{KeyLine}
 use Rattle.lot_bucket.specs.Agrees.{Agrees}
+use Rattle.lot_bucket.specs.Taking.{TakesOne, TakesFirst}
+use Rattle.lot_bucket.specs.declared.taking.Moment.{Moment}
 use Rattle.lot_bucket.specs.declared.taking.Dequeued.{Dequeued}
 use Rattle.lot_park.specs.declared.lot.Parked.{Parked}
 use Rattle.lot_park.specs.declared.lot.Parked.TheVariants.{Invalid, Woken}
@@ -123,16 +125,22 @@ module _ {R : Type 0} (view : R → KeyLine) where
       → ((view answer.1).key ≡ k) × ((view answer.1).line ≡ drop n (view root).line)
       × ((view answer.1).owes ≡ debts (take n (view root).line))
 
-  -- An unparking called its callback once, with some root of the key, and answers what that answered and
-  -- what it was told.
-  pub record UnparkedOne {X T : Type 0} (k now : ℕ) (answers : R → Dequeued → X × R × T → Type 0) (result : X × Dequeued) : Type 0 where
+  -- An unparking called its callback once, with some root of the key, and answers what that answered and what it was
+  -- told. The root lay in a bucket of the kind that is named, and what was told is the truth of that bucket.
+  pub record UnparkedOne {X T : Type 0} (k : ℕ) (moment : Moment) (lies : Contents R → Type 0) (answers : R → Dequeued → X × R × T → Type 0)
+      (result : X × Dequeued) : Type 0 where
     pub root : R
     pub answer : X × R × T
     pub named : (view root).key ≡ k
     pub paid : (view root).owes ≡ []
-    pub told : Tells (view root).line now result.1
+    pub told : Tells (view root).line moment.now result.1
     pub called : answers root result.1 answer
     pub same : result.0 ≡ answer.0
+    pub bucket : Contents R
+    pub left : Contents R
+    pub found : lies bucket
+    pub lay : root_at k bucket.places ≡ Some root
+    pub took : TakesOne k moment bucket left result.1
 
   -- An unparking of all called its callback once, with some root of the key, and answers how long its
   -- line was.
@@ -145,8 +153,10 @@ module _ {R : Type 0} (view : R → KeyLine) where
     pub called : answers root result.1 answer
     pub same : result.0 ≡ answer.0
 
-  -- An unparking of at most n called its callback once, with some root of the key, and answers how many it took.
-  pub record UnparkedCount {X : Type 0} (threads k n : ℕ) (answers : R → ℕ → Bool → X × R → Type 0) (result : X × ℕ) : Type 0 where
+  -- An unparking of at most n called its callback once, with some root of the key, and answers how many it took. The
+  -- root lay in a bucket of the kind that is named, and what was told is the truth of that bucket.
+  pub record UnparkedCount {X : Type 0} (threads k n : ℕ) (lies : Contents R → Type 0) (answers : R → ℕ → Bool → X × R → Type 0)
+      (result : X × ℕ) : Type 0 where
     pub root : R
     pub more : Bool
     pub answer : X × R
@@ -155,6 +165,11 @@ module _ {R : Type 0} (view : R → KeyLine) where
     pub told : TellsCount threads n (view root).line result.1 more
     pub called : answers root result.1 more answer
     pub same : result.0 ≡ answer.0
+    pub bucket : Contents R
+    pub left : Contents R
+    pub found : lies bucket
+    pub lay : root_at k bucket.places ≡ Some root
+    pub took : TakesFirst n k bucket left (take n (view root).line) result.1 more
 
   -- A validation was called once, with some root of the key.
   pub record Validated {X P : Type 0} (k : ℕ) (answers : R → X × P × R × Bool → Type 0) (x : X) (pass : P) (queued : Bool) : Type 0 where

@@ -1,10 +1,11 @@
 //! What is done under the lock of a bucket.
 
 ghost use Rattle.std.specs.Prelude.{◌≡◌, ◌<◌, ◌≤◌, [], ◌∷◌, ◌++◌, Option, Some, None, IsSome, length, take};
-ghost use Rattle.std.specs.Prelude.{if◌then◌else◌};
+ghost use Rattle.std.specs.Prelude.{if◌then◌else◌, nat_lt, not, ◌&&◌, ◌==◌};
 ghost use Rattle.lot_bucket.specs.Queue.{line_of, without_count};
 ghost use Rattle.lot_bucket.specs.Places.{root_at, with_root};
 ghost use Rattle.lot_bucket.specs.Settled.{HasPlaceFor, Stays};
+ghost use Rattle.lot_bucket.specs.Taking.{TakesOne, TakesFirst};
 ghost use Rattle.lot_park.specs.Parking.{IsOpenFor, TellsCount, debt, debts, MayUnpark, Unparks, UnparkedOne};
 ghost use Rattle.lot_park.specs.Parking.{MayUnparkCount, UnparksCount, UnparkedCount, MayValidate, Validates};
 ghost use Rattle.lot_park.specs.Parking.{Validated};
@@ -50,7 +51,8 @@ pub fn unpark_in<S: Scheme, X, Y, F: FnOnce(X, S::Root, UnparkResult) -> (Y, S::
     requires callable { MayUnpark S.Root.view key moment.now (F.pre callback x) }
     requires keeps { Unparks S.Root.view (λ (t : Token). t.0) key moment.now (F.post callback x) }
     ensures stays { Stays S.Root.view bucket.old bucket.new }
-    ensures called { UnparkedOne S.Root.view key moment.now (F.post callback x) result }
+    ensures took { TakesOne key moment bucket.old (record bucket.new { places = bucket.old.places }) result.1 }
+    ensures called { UnparkedOne S.Root.view key moment (λ b. b ≡ bucket.old) (F.post callback x) result }
 {
     let root = bucket.take_root(key);
     let told = bucket.dequeue_one(key, moment);
@@ -74,7 +76,10 @@ pub fn unpark_count_in<S: Scheme, X, Y, F: FnOnce(X, S::Root, usize, bool) -> (Y
     requires callable { MayUnparkCount S.Root.view bucket.old.room key count (F.pre f x) }
     requires keeps { UnparksCount S.Root.view bucket.old.room key count (F.post f x) }
     ensures stays { Stays S.Root.view bucket.old bucket.new }
-    ensures called { UnparkedCount S.Root.view bucket.old.room key count (F.post f x) (result.0, result.1.count) }
+    ensures took { (more : _) × TakesFirst count key bucket.old (record bucket.new { places = bucket.old.places })
+        (take result.1.count result.1.threads) result.1.count more }
+    ensures called { UnparkedCount S.Root.view bucket.old.room key count (λ b. b ≡ bucket.old) (F.post f x)
+        (result.0, result.1.count) }
 {
     let mut threads = [0; MOST_THREADS];
     let (root, taken, more) = take_first(bucket, key, count, &mut threads);
@@ -106,6 +111,7 @@ fn take_first<R: Root>(
     ensures told { TellsCount bucket.old.room count (line_of key bucket.old.queue) result.1 result.2 }
     ensures within { result.1 ≤ bucket.old.room }
     ensures line { take result.1 out.new ≡ take count (line_of key bucket.old.queue) }
+    ensures others { result.2 ≡ (nat_lt 0 result.1 && not (length bucket.new.queue == 0)) }
     ensures left { bucket.new ≡ record bucket.old {
       places = with_root key None bucket.old.places;
       queue = without_count count key bucket.old.queue;

@@ -31,3 +31,6 @@ pub returns-clause-within : goal.returns-clause-within
 returns-clause-within g c =
     let at = (goal.at.returns-clause-within g c).After-take_root-root in
     omega (arith, c.dequeue_count-taken.ensures.number, ap (λ q. length (line_of c.args.key q)) (queue g at), fits g at)
+
+pub returns-clause-others : goal.returns-clause-others
+returns-clause-others g c = c.dequeue_count-taken.ensures.others

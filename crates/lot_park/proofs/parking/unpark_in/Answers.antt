@@ -1,9 +1,10 @@
-use Rattle.std.proofs.Common.{◌≡◌, None, refl, ◌∙◌, ap}
+use Rattle.std.proofs.Common.{◌≡◌, None, Some, refl, ◌∙◌, ap}
 use Rattle.lot_bucket.specs.Contents.{Contents}
 use Rattle.lot_bucket.specs.Places.{with_root}
 use Rattle.lot_bucket.specs.Agrees.{IsRootOf}
+use Rattle.lot_bucket.specs.Taking.{TakesOne}
 use Rattle.lot_park.specs.Parking.{Tells}
-use Rattle.lot_park.proofs.Under.{own_root, tells, one_unparked_stays, place_has, place_empty}
+use Rattle.lot_park.proofs.Under.{own_root, tells, one_unparked_stays, place_has, place_empty, took_one}
 use Rattle.lot_park.proofs.parking.unpark_in.Given.{Over}
 use Rattle.lot_park.proofs.parking.unpark_in.Goals.{After-dequeue_one-told}
 use Rattle.lot_park.proofs.parking.unpark_in.Goals as goal
@@ -23,6 +24,15 @@ out : (g : Over) (c : After-dequeue_one-told g) → c.dequeue_one-told.new.self.
 out g c =
     ap (λ (b : Contents g.row.S-Root.Denot). b.places) c.dequeue_one-told.ensures.left
     ∙ ap (λ (b : Contents g.row.S-Root.Denot). b.places) c.take_root-root.ensures.left
+
+-- what was taken of the bucket, once the root is back
+took : (g : Over) (c : After-dequeue_one-told g) (after : Contents g.row.S-Root.Denot) (root : g.row.S-Root.Denot)
+    → after ≡ record c.dequeue_one-told.new.self { places = with_root c.args.key (Some root) c.dequeue_one-told.new.self.places }
+    → TakesOne c.args.key c.args.moment c.args.bucket.now (record after { places = c.args.bucket.now.places }) c.dequeue_one-told.result
+took g c after root put =
+    took_one c.args.key c.args.moment c.args.bucket.now c.take_root-root.new.self c.dequeue_one-told.new.self after
+    (with_root c.args.key (Some root) c.dequeue_one-told.new.self.places) c.dequeue_one-told.result c.take_root-root.ensures.left
+    c.dequeue_one-told.ensures put
 
 pub callback-y-requires : goal.callback-y-requires
 callback-y-requires g c = c.requires.callable c.take_root-root.result c.dequeue_one-told.result (own g c).named (own g c).paid (told g c)
@@ -52,6 +62,10 @@ returns-clause-stays g c =
     c.take_root-root.ensures.left c.dequeue_one-told.ensures c.put_root.ensures
     (c.pay-root.ensures.key ∙ kept.0) (c.pay-root.ensures.line ∙ kept.1) c.pay-root.ensures.paid
 
+pub returns-clause-took : goal.returns-clause-took
+returns-clause-took g c =
+    took g (goal.at.returns-clause-took g c).After-dequeue_one-told c.put_root.new.self c.pay-root.result c.put_root.ensures
+
 pub returns-clause-called : goal.returns-clause-called
 returns-clause-called g c =
     let at = (goal.at.returns-clause-called g c).After-dequeue_one-told in
@@ -63,4 +77,9 @@ returns-clause-called g c =
       told = told g at;
       called = c.callback-y.ensures;
       same = refl;
+      bucket = c.args.bucket.now;
+      left = record c.put_root.new.self { places = c.args.bucket.now.places };
+      found = refl;
+      lay = c.take_root-root.ensures.root;
+      took = took g at c.put_root.new.self c.pay-root.result c.put_root.ensures;
     }
