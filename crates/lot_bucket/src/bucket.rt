@@ -1,5 +1,5 @@
 ghost use Rattle.std.specs.Prelude.{◌≡◌, ℕ, ◌+◌, ◌-◌, ◌*◌, ◌^◌, ◌<◌, ◌≤◌, ◌↔◌, true, false, [], ◌∷◌, ◌++◌, length};
-ghost use Rattle.std.specs.Prelude.{take, min, Any, IfOk, IsTrue, IsSome};
+ghost use Rattle.std.specs.Prelude.{take, drop, min, Any, IfOk, IsTrue, IsSome};
 ghost use Rattle.lot_bucket.specs.Queue.{line_of, without_key};
 ghost use Rattle.lot_bucket.specs.Places.{empty_places, spaced, has_key, root_at, with_root};
 
@@ -219,21 +219,24 @@ impl<R> Bucket<R> {
     }
 
     /// Takes the first `count` threads of the key's line, or all where it is shorter, and writes them to the
-    /// front of `out`. It answers how many they were, and whether somebody was taken and the queue is not
-    /// empty; who is left may wait on another key. The moment after which it is time to be fair stays.
+    /// front of `out`, whose rest stays. It answers how many they were, and whether somebody was taken and the queue
+    /// is not empty; who is left may wait on another key. The moment after which it is time to be fair stays.
     pub fn dequeue_count(&mut self, key: usize, count: usize, out: &mut [usize]) -> (usize, bool)
         requires { min count (length (line_of key self.old.queue)) ≤ length out.old }
-        ensures { TakesFirst count key self.old self.new (take result.0 out.new) result.0 result.1 }
+        ensures took { TakesFirst count key self.old self.new (take result.0 out.new) result.0 result.1 }
+        ensures beyond { drop result.0 out.new ≡ drop result.0 out.old }
     {
         let taken = self.queue.take_count(key, count, out);
         (taken, taken > 0 && self.queue.len() > 0)
     }
 
-    /// Takes the whole line of the key, writes it to the front of `out`, and answers how long it was.
+    /// Takes the whole line of the key, writes it to the front of `out`, and answers how long it was. The rest of `out`
+    /// stays.
     pub fn dequeue_all(&mut self, key: usize, out: &mut [usize]) -> usize
         requires { length (line_of key self.old.queue) ≤ length out.old }
         ensures count { result ≡ length (line_of key self.old.queue) }
         ensures line { take result out.new ≡ line_of key self.old.queue }
+        ensures beyond { drop result out.new ≡ drop result out.old }
         ensures left { self.new ≡ record self.old { queue = without_key key self.old.queue } }
     {
         self.queue.take_all(key, out)

@@ -4,7 +4,7 @@ use Rattle.std.proofs.Common.{drop, remove, refl, sym, ◌∙◌, ap, arith, eq-
 use Rattle.std.proofs.lemmas.Bool.{ne_eqb}
 use Rattle.std.proofs.lemmas.Bool.Decides.{eqb_tells}
 use Rattle.std.proofs.lemmas.List.{append_assoc, append-nil, take-append-drop, take_all, take_more, take_at, drop_at, drop_all}
-use Rattle.std.proofs.lemmas.List.{length-take-le, nil_from_length}
+use Rattle.std.proofs.lemmas.List.{length-take-le, nil_from_length, drop-set-lt}
 use Rattle.std.proofs.Math.Seq.{drop-cons, take-nil, take-suc-set}
 use Rattle.lot_places.proofs.Laws.{without_key_none}
 use Rattle.lot_places.specs.Queue.{line_of, without_count, without_key}
@@ -101,6 +101,18 @@ module _ (k count : ℕ) (before queue : List (ℕ × ℕ)) (out : List ℕ) (i 
         line = sym (append-nil (take taken out)) ∙ rw (none, take-nil w.rest) at w.line;
         left = sym (take_all i queue over) ∙ sym (append-nil (take i queue)) ∙ rw (none, without_count_nothing w.rest k) at w.left;
       }
+
+drop_next : (n : ℕ) (xs : List ℕ) → drop (suc n) xs ≡ drop 1 (drop n xs)
+drop_next zero xs = refl
+drop_next (suc n) [] = refl
+drop_next (suc n) (x ∷ xs) = drop_next n xs
+
+-- one more was written to out, and beyond it out is as before
+pub beyond_one : (n : ℕ) (out before : List ℕ) (thread : ℕ) → drop n out ≡ drop n before
+    → drop (n + 1) (set out n thread) ≡ drop (n + 1) before
+beyond_one n out before thread same =
+    drop-set-lt (n + 1) out n thread (omega arith)
+    ∙ rw (add-one n) (drop_next n out ∙ ap (λ xs. drop 1 xs) same ∙ sym (drop_next n before))
 
 -- to take all is to take no fewer than there are
 pub without_count-all : (n k : ℕ) (queue : List (ℕ × ℕ)) → length (line_of k queue) ≤ n → without_count n k queue ≡ without_key k queue

@@ -1,4 +1,4 @@
-ghost use Rattle.std.specs.Prelude.{◌≡◌, ℕ, ◌<◌, ◌≤◌, ◌↔◌, [], ◌∷◌, ◌++◌, length, take, min, Any, IsTrue, IsSome, IfOk};
+ghost use Rattle.std.specs.Prelude.{◌≡◌, ℕ, ◌<◌, ◌≤◌, ◌↔◌, [], ◌∷◌, ◌++◌, length, take, drop, min, Any, IsTrue, IsSome, IfOk};
 ghost use Rattle.std.specs.Prelude.{IfSome};
 ghost use Rattle.lot_places.specs.Queue.{line_of, without_first, without_count, without_key, first_of};
 ghost use Rattle.lot_places.specs.Waiting.{Waiting, lying_at};
@@ -133,11 +133,13 @@ impl Queue {
         (taken == 1).then_some(out[0])
     }
 
-    /// Takes the whole line of the key, writes it to the front of `out`, and answers how long it was.
+    /// Takes the whole line of the key, writes it to the front of `out`, and answers how long it was. The rest of `out`
+    /// stays.
     pub fn take_all(&mut self, key: usize, out: &mut [usize]) -> usize
         requires { length (line_of key self.old.pairs) ≤ length out.old }
         ensures count { result ≡ length (line_of key self.old.pairs) }
         ensures line { take result out.new ≡ line_of key self.old.pairs }
+        ensures beyond { drop result out.new ≡ drop result out.old }
         ensures left { self.new ≡ record self.old { pairs = without_key key self.old.pairs } }
     {
         let all = self.len();
@@ -145,11 +147,12 @@ impl Queue {
     }
 
     /// Takes the first `count` of the key's line, or all where it is shorter, writes them to the front of
-    /// `out`, and answers how many they were. It walks no further than to the last of them.
+    /// `out`, and answers how many they were. The rest of `out` stays. It walks no further than to the last of them.
     pub fn take_count(&mut self, key: usize, count: usize, out: &mut [usize]) -> usize
         requires { min count (length (line_of key self.old.pairs)) ≤ length out.old }
         ensures taken { result ≡ min count (length (line_of key self.old.pairs)) }
         ensures line { take result out.new ≡ take count (line_of key self.old.pairs) }
+        ensures beyond { drop result out.new ≡ drop result out.old }
         ensures left { self.new ≡ record self.old { pairs = without_count count key self.old.pairs } }
     {
         let mut cursor = self.links.start();

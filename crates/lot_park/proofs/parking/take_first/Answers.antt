@@ -25,12 +25,12 @@ returns-clause-told g c =
     tells_count c.args.key c.args.count c.args.bucket.now.room c.args.bucket.now c.take_root-root.new.self c.dequeue_count-taken.new.self _
     c.dequeue_count-taken.result.0
     c.dequeue_count-taken.result.1
-    (queue g at) (fits g at) c.dequeue_count-taken.ensures
+    (queue g at) (fits g at) c.dequeue_count-taken.ensures.took
 
 pub returns-clause-within : goal.returns-clause-within
 returns-clause-within g c =
     let at = (goal.at.returns-clause-within g c).After-take_root-root in
-    omega (arith, c.dequeue_count-taken.ensures.number, ap (λ q. length (line_of c.args.key q)) (queue g at), fits g at)
+    omega (arith, c.dequeue_count-taken.ensures.took.number, ap (λ q. length (line_of c.args.key q)) (queue g at), fits g at)
 
 pub returns-clause-others : goal.returns-clause-others
-returns-clause-others g c = c.dequeue_count-taken.ensures.others
+returns-clause-others g c = c.dequeue_count-taken.ensures.took.others

@@ -18,3 +18,6 @@ returns-clause-left c =
     let few : length (line_of c.args.key c.args.self.now.pairs) ≤ c.len-all.result =
     omega (arith, line_fits c.args.key c.args.self.now.pairs, c.len-all.ensures.count) in
     rw (c.take_count.ensures.left, without_count-all c.len-all.result c.args.key c.args.self.now.pairs few) refl
+
+pub returns-clause-beyond : goal.returns-clause-beyond
+returns-clause-beyond c = c.take_count.ensures.beyond

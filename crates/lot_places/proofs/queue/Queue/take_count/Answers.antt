@@ -2,7 +2,7 @@ use Rattle.std.proofs.Common.{◌≡◌, ◌≢◌, ℕ, ◌<◌, ◌≤◌, Lis
 use Rattle.std.proofs.lemmas.List.Edits.{length-remove}
 use Rattle.lot_places.specs.Links.{Row}
 use Rattle.lot_places.specs.Waiting.{Waiting, lying_at}
-use Rattle.lot_places.proofs.Lines.{passed_on, room_for_one, one_taken, none_to_take, none_to_pass}
+use Rattle.lot_places.proofs.Lines.{passed_on, room_for_one, one_taken, none_to_take, none_to_pass, beyond_one}
 use Rattle.lot_places.proofs.Lying.{length_is, reads, lying_at-remove}
 use Rattle.lot_places.specs.Counted.{threads_of}
 use Rattle.lot_places.proofs.Counted.{threads_of-remove, threads_of-at, length-threads_of}
@@ -31,6 +31,7 @@ loop-taken-init c =
       taking =
           rw (← c.self.view_is, c.start-cursor.ensures.first)
           (record { rest = c.args.count; all = omega arith; number = omega arith; line = refl; left = refl });
+      beyond = refl;
     }
 
 room : (c : After-index) → c.index.result.now.1 ≡ c.args.key → c.loop-taken.taken < length c.loop-taken.out
@@ -66,6 +67,7 @@ loop-taken-preserved-then-waits_on-key c =
       taking =
           rw (c.remove.ensures.left, lying_at-remove c.loop-taken.self-inside.pairs.items c.loop-taken.self-inside.links.used i)
           (rw (here at) at taken);
+      beyond = beyond_one c.loop-taken.taken c.loop-taken.out _ _ c.loop-taken.invariant.beyond;
     }
 
 pub loop-taken-preserved : goal.loop-taken-preserved
@@ -81,6 +83,7 @@ loop-taken-preserved c =
       taking =
           rw c.past-cursor.ensures.one
           (passed_on _ _ _ _ c.loop-taken.out i _ (0, 0) c.loop-taken-test.true (within at) key c.loop-taken.invariant.taking);
+      beyond = c.loop-taken.invariant.beyond;
     }
 
 pub returns-else-cursor-len : goal.returns-else-cursor-len
@@ -92,7 +95,12 @@ returns-else-cursor-len c =
     let done =
     none_to_pass c.args.key c.args.count c.args.self.now.pairs queue c.loop-taken.out c.loop-taken.cursor.passed c.loop-taken.taken over
     c.loop-taken.invariant.taking in
-    record { taken = done.number; line = done.line; left = rw (c.loop-taken.invariant.room, done.left) refl }
+    record {
+      taken = done.number;
+      line = done.line;
+      beyond = c.loop-taken.invariant.beyond;
+      left = rw (c.loop-taken.invariant.room, done.left) refl;
+    }
 
 pub place-requires : goal.place-requires
 place-requires c = record { stands = c.loop-taken.invariant.stands; more = rw (← c.len.ensures.count) c.if-cursor-len.true }
@@ -120,7 +128,12 @@ returns-after-loop-taken c =
     none_to_take c.args.key c.args.count c.args.self.now.pairs queue c.loop-taken.out c.loop-taken.cursor.passed c.loop-taken.taken
     c.loop-taken-test.false
     c.loop-taken.invariant.taking in
-    record { taken = done.number; line = done.line; left = rw (c.loop-taken.invariant.room, done.left) refl }
+    record {
+      taken = done.number;
+      line = done.line;
+      beyond = c.loop-taken.invariant.beyond;
+      left = rw (c.loop-taken.invariant.room, done.left) refl;
+    }
 
 pub loop-taken-smaller-then-waits_on-key : goal.loop-taken-smaller-then-waits_on-key
 loop-taken-smaller-then-waits_on-key c =

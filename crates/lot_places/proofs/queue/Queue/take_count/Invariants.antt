@@ -1,4 +1,4 @@
-use Rattle.std.proofs.Common.{◌≡◌, ◌-◌, length}
+use Rattle.std.proofs.Common.{◌≡◌, ◌-◌, length, drop}
 use Rattle.lot_places.specs.Waiting.{lying_at}
 use Rattle.lot_places.specs.Counted.{AreCounted, threads_of}
 use Rattle.lot_places.specs.Links.{StandsIn}
@@ -14,6 +14,7 @@ invariant-loop-taken l =
       room : l.self-inside.links.room ≡ l.fn.self.room;
       taking : IsTakenTo l.key l.count l.fn.self.pairs
           (lying_at l.self-inside.pairs.items l.self-inside.links.used) l.out l.cursor.passed l.taken;
+      beyond : drop l.taken l.out ≡ drop l.taken l.fn.out;
     }
 
 abbrev pub decreases-loop-taken : goal.decreases-loop-taken
