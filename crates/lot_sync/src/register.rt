@@ -1,5 +1,5 @@
 //! Giving threads their passes, and taking them back.
-ghost use Rattle.std.specs.Prelude.{◌≡◌, ◌<◌, ◌-◌, IfOk, IfErr, IfSome};
+ghost use Rattle.std.specs.Prelude.{◌≡◌, ◌<◌, ◌+◌, ◌-◌, ◌↔◌, IfOk, IfErr, IfSome};
 ghost use Rattle.lot_table.specs.Sizes.{Serves};
 ghost use Rattle.lot_sync.specs.Lot.{OwnsNone, HasShape, HasGrown, rested};
 
@@ -91,7 +91,8 @@ fn register_in<V: Keeps + Send, N: LotName<V> + Send, C: Tally + Send, R: Wait>(
     ensures free { IfOk result (λ r. OwnsNone r.0) }
     ensures rests { IfOk result (λ r. V.rests (rested r.0)) }
     ensures served { IfOk result (λ r. Serves (threads - pool.new) r.1) }
-    ensures refused { IfErr result (λ fault. (pool.new ≡ pool.old) × ((fault ≡ RegisterFault.Full) → pool.old ≡ 0)) }
+    ensures taken { IfOk result (λ r. pool.new + 1 ≡ pool.old) }
+    ensures refused { IfErr result (λ fault. (pool.new ≡ pool.old) × ((fault ≡ RegisterFault.Full) ↔ (pool.old ≡ 0))) }
 {
     let Some(pass) = pool.take_least() else {
         return Err(RegisterFault::Full);
