@@ -1,8 +1,8 @@
 -- The line of a sighting, taken apart where its last space stands.
-use Rattle.std.proofs.Common.{◌≡◌, ◌≢◌, ◌<◌, ◌+◌, ◌-◌, ◌++◌, ℕ, suc, true, false, List, [], ◌∷◌, length, length-append, get_or, take}
-use Rattle.std.proofs.Common.{drop, refl, sym, ap}
+use Rattle.std.proofs.Common.{◌≡◌, ◌≢◌, ◌<◌, ◌+◌, ◌-◌, ◌++◌, ℕ, zero, suc, true, false, List, [], ◌∷◌, length, length-append, get_or, take}
+use Rattle.std.proofs.Common.{drop, replicate, take-add, take_at, drop_at, refl, sym, ap}
 use Rattle.std.proofs.Common.{◌∙◌, subst, arith, inl, inr, append_assoc, Some, None}
-use Rattle.std.specs.Prelude.{codes, decimal, Option, IfSome, IfNone}
+use Rattle.std.specs.Prelude.{codes, decimal}
 use Rattle.std.proofs.lemmas.Bool.{cases_lt}
 use Rattle.std.proofs.lemmas.List.{append-nil, append_cancel_right, get_or-append-add, take-append-drop}
 use Rattle.std.proofs.Math.Seq.{get_or-append_seam}
@@ -17,15 +17,6 @@ use Rattle.lot_events.proofs.Spelled.{event_again}
 use Rattle.lot_witness.specs.declared.witness.Sighting.{Sighting}
 use Rattle.lot_witness.specs.Spelling.{told, TellsTruth, TellsNothing, TellsSleeper, TellsCount, IsSightOf, SpellsSighting}
 use Rattle.lot_witness.proofs.Clean.{clean, clean_append, clean_at, clean_decimal, clean_front, IsOneLine}
-
--- what is said of an option, where it is known
-pub when_none : {X : Type 0} {P : Type 0} (o : Option X) → IfNone o P → o ≡ None → P
-when_none None says is = says
-when_none (Some x) says is = absurd (cc)
-
-pub when_some : {X : Type 0} (P : X → Type 0) (o : Option X) (x : X) → IfSome o P → o ≡ Some x → P x
-when_some P None x says is = absurd (cc)
-when_some P (Some y) x says is = let same : y ≡ x = cc in subst P same says
 
 -- a number that is all that stands there
 pub whole_number : (text : List ℕ) (n : ℕ) (rest : List ℕ) → field_at text ≡ Some (n, rest) → length rest ≡ 0
@@ -192,3 +183,20 @@ joined line x k spells sight is = record {
   parts = ap (λ l. l ++ 10 ∷ []) (sym (take-append-drop k line) ∙ ap (λ t. take k line ++ t) is)
       ∙ append_assoc (take k line) (told x.saw) (10 ∷ []);
 }
+
+-- a front that was put into an array of LFs, and the next of them
+pub feed_behind : (n m : ℕ) → n < m → take {A = ℕ} 1 (drop n (replicate m 10)) ≡ 10 ∷ []
+feed_behind n zero within = absurd (omega arith)
+feed_behind zero (suc m) within = refl
+feed_behind (suc n) (suc m) within = feed_behind n m (omega (arith, within))
+
+pub ended : (front put : List ℕ) (m : ℕ) → put ≡ front → length front < m →
+    take {A = ℕ} (length front + 1) (put ++ drop (length front) (replicate m 10)) ≡ front ++ 10 ∷ []
+ended front put m same within =
+    let n : ℕ = length front in
+    let rest : List ℕ = drop n (replicate m 10) in
+    ap (λ p. take (n + 1) (p ++ rest)) same
+    ∙ take-add n 1 (front ++ rest)
+    ∙ ap (λ t. t ++ take 1 (drop n (front ++ rest))) (take_at front rest n refl)
+    ∙ ap (λ t. front ++ take 1 t) (drop_at front rest n refl)
+    ∙ ap (λ t. front ++ t) (feed_behind n m within)

@@ -3,9 +3,9 @@ use Rattle.std.proofs.Common.{◌≡◌, ◌≢◌, ◌<◌, ◌≤◌, ◌+◌,
 use Rattle.std.proofs.Common.{refl, sym, ap, subst, ◌∙◌}
 use Rattle.std.proofs.Common.{Bor, arith, append_assoc, inl, inr, Some, None}
 use Rattle.std.proofs.lemmas.Str.Pattern.{IsSplitOnceResult, split_after}
-use Rattle.std.specs.Prelude.{codes, ◌==◌, not, Err}
+use Rattle.std.specs.Prelude.{codes, ◌==◌, not}
 use Rattle.std.proofs.lemmas.Bool.{and_parts}
-use Rattle.std.proofs.lemmas.List.{append-nil}
+use Rattle.std.proofs.lemmas.List.{append-nil, nil_from_length}
 use Rattle.lot_events.specs.declared.events.Event.{Event}
 use Rattle.lot_events.specs.declared.events.Seen.{Seen}
 use Rattle.lot_events.specs.declared.events.Seen.TheVariants.{Bool as Saw, Done, Sleeper, Count}
@@ -14,15 +14,13 @@ use Rattle.lot_events.specs.Spelling.{line, field, Spells}
 use Rattle.lot_events.proofs.Figures.{some_is}
 use Rattle.lot_events.proofs.Spelled.{one_event}
 use Rattle.lot_core.specs.declared.script.TheConstants.{MAX_LINES}
-use Rattle.lot_core.specs.declared.script.ScriptFault.{ScriptFault}
-use Rattle.lot_core.specs.declared.script.ScriptFault.TheVariants.{BadLine, NoMemory}
 use Rattle.lot_core.specs.Script.{Opening}
 use Rattle.lot_core.specs.Reading.{ReadsNumbers}
-use Rattle.lot_core.proofs.Openings.{opening_takes, same_opening, SameOpening}
+use Rattle.lot_core.proofs.Openings.{opening_takes, same_numbers, same_opening, SameOpening}
 use Rattle.lot_witness.specs.declared.witness.Sighting.{Sighting}
 use Rattle.lot_witness.specs.Spelling.{told, TellsTruth, TellsNothing, TellsSleeper, TellsCount, IsSightOf, SpellsSighting, BeginsWith}
 use Rattle.lot_witness.specs.Spelling.{NoSighting, BeginsWithAll, AreAll, Opens, SpellsWitness, IsBadLine}
-use Rattle.lot_witness.specs.Spelling.{IsFirstBad, IsFaulty, Reads}
+use Rattle.lot_witness.specs.Spelling.{IsFirstBad, AreGood, WantsMemory}
 use Rattle.lot_witness.proofs.Clean.{clean, clean_at, IsOneLine, line_is_one}
 use Rattle.lot_witness.proofs.Lines.{by_sight, sighting_is_one, IsCut, IsLastSpace, cut, cut_at, space_at, behind_space, number_read}
 
@@ -32,35 +30,57 @@ pub all_push : (text : List ℕ) (xs : List Sighting) (rest : List ℕ) (x : Sig
 all_push text [] rest x behind same begins = (behind, subst (λ t. BeginsWith t x behind) (sym same) begins, refl)
 all_push text (y ∷ xs) rest x behind (next, first, others) begins = (next, first, all_push next xs rest x behind others begins)
 
+-- what was read of the lines began with one, where another was found behind them
+pub all_first : (text : List ℕ) (xs : List Sighting) (rest : List ℕ) (x : Sighting) (behind : List ℕ) → BeginsWithAll text xs rest →
+    BeginsWith rest x behind → (y : Sighting) × (after : List ℕ) × BeginsWith text y after
+all_first text [] rest x behind same begins = (x, behind, subst (λ t. BeginsWith t x behind) (sym same) begins)
+all_first text (y ∷ xs) rest x behind (next, first, others) begins = (y, next, first)
+
 -- the lines from the second on were read up to line `number`, and `rest` is left
-abbrev pub IsSoFar : List ℕ → List Sighting → List ℕ → ℕ → Type 0
-IsSoFar lines xs rest number = BeginsWithAll lines xs rest × (number ≡ length xs + 2)
+pub record IsSoFar (lines rest : List ℕ) (number : ℕ) : Type 0 where
+  pub xs : List Sighting
+  pub good : BeginsWithAll lines xs rest
+  pub count : number ≡ length xs + 2
 
-pub so_more : (lines : List ℕ) (xs : List Sighting) (rest : List ℕ) (number : ℕ) (x : Sighting) (behind : List ℕ)
-    → IsSoFar lines xs rest number →
-    BeginsWith rest x behind → IsSoFar lines (xs ++ x ∷ []) behind (number + 1)
-so_more lines xs rest number x behind so begins =
-    (all_push lines xs rest x behind so.0 begins, omega (arith, so.1, length-append xs (x ∷ [])))
+pub so_first : (lines : List ℕ) → IsSoFar lines lines 2
+so_first lines = record { xs = []; good = refl; count = refl }
 
-pub so_all : (lines : List ℕ) (xs : List Sighting) (rest : List ℕ) (number : ℕ) → IsSoFar lines xs rest number → number ≤ MAX_LINES + 1
-    → length rest ≡ 0 → AreAll lines xs
-so_all lines xs [] number so few none = (so.0, omega (arith, so.1))
-so_all lines xs (b ∷ rest) number so few none = absurd (omega arith)
+pub so_more : (lines rest : List ℕ) (number : ℕ) (x : Sighting) (behind : List ℕ) → IsSoFar lines rest number → BeginsWith rest x behind →
+    IsSoFar lines behind (number + 1)
+so_more lines rest number x behind so begins = record {
+  xs = so.xs ++ x ∷ [];
+  good = all_push lines so.xs rest x behind so.good begins;
+  count = omega (arith, so.count, length-append so.xs (x ∷ []));
+}
+
+pub so_done : (lines rest : List ℕ) (number : ℕ) → IsSoFar lines rest number → number ≤ MAX_LINES + 1 → length rest ≡ 0 → AreGood lines
+so_done lines rest number so few none =
+    (so.xs, (subst (BeginsWithAll lines so.xs) (nil_from_length rest none) so.good, omega (arith, so.count)))
 
 pub not_nil : (rest : List ℕ) → 0 < length rest → rest ≢ []
 not_nil rest some e = omega (arith, ap length e)
 
-pub so_bad : (lines : List ℕ) (xs : List Sighting) (rest : List ℕ) (number : ℕ) → IsSoFar lines xs rest number → number ≤ MAX_LINES + 1
-    → 0 < length rest → NoSighting rest ⊎ (number ≡ MAX_LINES + 1) → IsBadLine lines number
-so_bad lines xs rest number so few some why = record {
-  xs = xs;
+-- line `number` is not as said, for one reason or the other
+so_fails : (lines rest : List ℕ) (number : ℕ) → IsSoFar lines rest number → number ≤ MAX_LINES + 1 → 0 < length rest →
+    NoSighting rest ⊎ (number ≡ MAX_LINES + 1) → IsBadLine lines number
+so_fails lines rest number so few some why = record {
+  xs = so.xs;
   rest = rest;
-  good = so.0;
-  few = omega (arith, so.1);
-  count = so.1;
+  good = so.good;
+  few = omega (arith, so.count);
+  count = so.count;
   some = not_nil rest some;
   why = why;
 }
+
+pub so_bad : (lines rest : List ℕ) (number : ℕ) → IsSoFar lines rest number → number ≤ MAX_LINES + 1 → 0 < length rest → NoSighting rest →
+    IsBadLine lines number
+so_bad lines rest number so few some none = so_fails lines rest number so few some (inl none)
+
+pub so_many : (lines rest : List ℕ) (number : ℕ) → IsSoFar lines rest number → number ≡ MAX_LINES + 1 → 0 < length rest →
+    IsBadLine lines (MAX_LINES + 1)
+so_many lines rest number so last some =
+    subst (IsBadLine lines) last (so_fails lines rest number so (omega arith) some (inr last))
 
 -- a text has one first line
 pub same_front : (a a' b b' : List ℕ) → clean 10 a ≡ true → clean 10 a' ≡ true → a ++ (10 ∷ b) ≡ a' ++ (10 ∷ b') → (a ≡ a') × (b ≡ b')
@@ -102,11 +122,6 @@ opens_split text n l c behind ps rest more first lines read reads ends split =
     let same : (first.now ≡ splits.0) × (lines.now ≡ more) =
     split_after 10 text splits.0 more (Some (first, lines)) split (omega arith) splits.1 splits.2 in
     subst (Opens text n l c ps) (sym same.1) opens
-
-pub fails : (text : List ℕ) (n l c : ℕ) (behind ps lines : List ℕ) (fault : ScriptFault) → open_at text ≡ Some (n, l, c, behind) →
-    Opens text n l c ps lines → IsFaulty lines fault → Reads text (Err fault)
-fails text n l c behind ps lines (BadLine number) read opens bad = inr (n, l, c, ps, lines, opens, bad)
-fails text n l c behind ps lines NoMemory read opens bad = λ none. let no_read = sym none ∙ read in absurd (cc)
 
 -- where the last space stands
 pub last_of : (line : List ℕ) (x : Sighting) → (is : IsCut line x) → IsLastSpace line (length is.front)
@@ -191,6 +206,12 @@ begins_not_nil x rest (first, spells, parts) =
     let one = sighting_is_one first x spells in
     omega (arith, ap length parts, length-append first rest, ap length one.parts, length-append one.front (10 ∷ []))
 
+-- a line less is left
+pub line_shorter : (text : List ℕ) (x : Sighting) (behind : List ℕ) → BeginsWith text x behind → length behind < length text
+line_shorter text x behind (first, spells, parts) =
+    let one = sighting_is_one first x spells in
+    omega (arith, ap length parts, length-append first behind, ap length one.parts, length-append one.front (10 ∷ []))
+
 -- lines that are all read go on where others stop
 pub record IsBeyond (xs ys : List Sighting) (rest : List ℕ) : Type 0 where
   pub more : List Sighting
@@ -211,6 +232,83 @@ pub same_lines : (text : List ℕ) (n l c n' l' c' : ℕ) (ps ps' lines lines' :
     → Opens text n' l' c' ps' lines' → SameOpening n l c n' l' c' ps ps' lines lines'
 same_lines text n l c n' l' c' ps ps' lines lines' opens opens' =
     same_opening n l c n' l' c' ps ps' opens.first opens'.first lines lines' opens.opens opens'.opens (sym opens.parts ∙ opens'.parts)
+
+-- good lines are all that can be read of them
+pub all_kept : (lines : List ℕ) (xs : List Sighting) (rest : List ℕ) → AreGood lines → BeginsWithAll lines xs rest → NoSighting rest
+    → AreAll lines xs
+all_kept lines xs rest (ys, good) read none =
+    let left = beyond lines ys xs rest good.0 read in
+    subst (AreAll lines) (none_left left.more left.parts left.each) good
+  where
+    none_left : (more : List Sighting) → ys ≡ xs ++ more → BeginsWithAll rest more [] → ys ≡ xs
+    none_left [] parts each = parts ∙ append-nil xs
+    none_left (x ∷ more) parts (behind, first, others) = absurd (none x behind first)
+
+-- the text was cut into its first line, of which these are the numbers behind the third, and good lines
+pub record IsGood (text : List ℕ) (n l c : ℕ) (behind lines : List ℕ) : Type 0 where
+  pub permits : List ℕ
+  pub rest : List ℕ
+  pub reads : ReadsNumbers behind permits rest
+  pub all : field_at rest ≡ None
+  pub opens : Opens text n l c permits lines
+  pub good : AreGood lines
+
+pub cut_good : (text : List ℕ) (n l c : ℕ) (behind ps rest more : List ℕ) (first lines : Bor (List ℕ)) →
+    open_at text ≡ Some (n, l, c, behind) → ReadsNumbers behind ps rest → field_at rest ≡ None → end_at rest ≡ Some more →
+    IsSplitOnceResult 10 text (Some (first, lines)) → AreGood lines.now → IsGood text n l c behind lines.now
+cut_good text n l c behind ps rest more first lines read reads all ends split good = record {
+  permits = ps;
+  rest = rest;
+  reads = reads;
+  all = all;
+  opens = opens_split text n l c behind ps rest more first lines read reads ends split;
+  good = good;
+}
+
+-- what was kept of it is the witness that it spells
+pub good_kept : (text : List ℕ) (n l c : ℕ) (behind lines permits after : List ℕ) (xs : List Sighting) (rest : List ℕ) →
+    IsGood text n l c behind lines → ReadsNumbers behind permits after → field_at after ≡ None → BeginsWithAll lines xs rest →
+    NoSighting rest → SpellsWitness text n l c permits xs
+good_kept text n l c behind lines permits after xs rest is reads all read none =
+    let same = same_numbers behind is.permits is.rest permits after is.reads is.all reads all in
+    record {
+      lines = lines;
+      opens = subst (λ ps. Opens text n l c ps lines) same is.opens;
+      each = all_kept lines xs rest is.good read none;
+    }
+
+-- with a permit or a sighting memory is wanted for it
+good_wants : (text : List ℕ) (n l c : ℕ) (behind lines : List ℕ) → (is : IsGood text n l c behind lines) →
+    0 < length is.permits + length is.good.0 → WantsMemory text
+good_wants text n l c behind lines is some = record {
+  threads = n;
+  locks = l;
+  conds = c;
+  permits = is.permits;
+  xs = is.good.0;
+  spells = record { lines = lines; opens = is.opens; each = is.good.1 };
+  some = some;
+}
+
+-- a semaphore's permits were read, and not kept
+pub lacks_permits : (text : List ℕ) (n l c : ℕ) (behind lines : List ℕ) (p : ℕ) (rest : List ℕ) → IsGood text n l c behind lines →
+    field_at behind ≡ Some (p, rest) → WantsMemory text
+lacks_permits text n l c behind lines p rest is found =
+    good_wants text n l c behind lines is (let one = some_number is.permits is.reads in omega (arith, one))
+  where
+    some_number : (ps : List ℕ) → ReadsNumbers behind ps is.rest → 0 < length ps
+    some_number [] same = let both = sym found ∙ ap field_at same ∙ is.all in absurd (cc)
+    some_number (q ∷ ps) others = omega arith
+
+-- a sighting was read, and not kept
+pub lacks_sightings : (text : List ℕ) (n l c : ℕ) (behind lines : List ℕ) (x : Sighting) (rest : List ℕ) →
+    IsGood text n l c behind lines → BeginsWith lines x rest → WantsMemory text
+lacks_sightings text n l c behind lines x rest is found =
+    good_wants text n l c behind lines is (let one = some_sighting is.good.0 is.good.1.0 in omega (arith, one))
+  where
+    some_sighting : (xs : List Sighting) → BeginsWithAll lines xs [] → 0 < length xs
+    some_sighting [] none = absurd (begins_not_nil x rest (subst (λ t. BeginsWith t x rest) none found))
+    some_sighting (y ∷ xs) others = omega arith
 
 pub not_bad : (text : List ℕ) (n l c : ℕ) (ps : List ℕ) (xs : List Sighting) (number : ℕ) → SpellsWitness text n l c ps xs
     → IsFirstBad text number → ⊥

@@ -9,7 +9,6 @@ use Rattle.lot_events.specs.Spelling.{field, IsSmall, Spells}
 use Rattle.lot_core.specs.declared.script.TheConstants.{MAX_LINES}
 use Rattle.lot_core.specs.declared.script.ScriptFault.{ScriptFault}
 use Rattle.lot_core.specs.declared.script.ScriptFault.TheVariants.{BadLine, NoMemory}
-use Rattle.lot_events.specs.Reading.{open_at}
 use Rattle.lot_core.specs.Script.{Opening, NoOpening}
 use Rattle.lot_witness.specs.declared.witness.Sighting.{Sighting}
 use Rattle.lot_witness.specs.declared.witness.Witness.{Witness}
@@ -85,6 +84,10 @@ BeginsWithAll text (x ∷ xs) rest = (behind : List ℕ) × BeginsWith text x be
 abbrev pub AreAll : List ℕ → List Sighting → Type 0
 AreAll lines xs = BeginsWithAll lines xs [] × (length xs < MAX_LINES)
 
+-- these may be all lines from the second on
+abbrev pub AreGood : List ℕ → Type 0
+AreGood lines = (xs : List Sighting) × AreAll lines xs
+
 -- a line that opens a script stands at the front, and `lines` behind it
 pub record Opens (text : List ℕ) (threads locks conds : ℕ) (permits lines : List ℕ) : Type 0 where
   pub first : List ℕ
@@ -113,14 +116,18 @@ IsFirstBad text number =
     ((number ≡ 1) × NoOpening text)
     ⊎ ((threads locks conds : ℕ) × (permits lines : List ℕ) × Opens text threads locks conds permits lines × IsBadLine lines number)
 
--- what the fault of the lines from the second on says
-abbrev pub IsFaulty : List ℕ → ScriptFault → Type 0
-IsFaulty lines (BadLine number) = IsBadLine lines number
-IsFaulty lines NoMemory = Unit {0}
+-- the text spells a witness, and memory is wanted to keep it: of a semaphore the permits, or a sighting
+pub record WantsMemory (text : List ℕ) : Type 0 where
+  pub threads : ℕ
+  pub locks : ℕ
+  pub conds : ℕ
+  pub permits : List ℕ
+  pub xs : List Sighting
+  pub spells : SpellsWitness text threads locks conds permits xs
+  pub some : 0 < length permits + length xs
 
--- what reading answers: an accepted witness has the numbers and the sightings that the lines spell. Memory is lacking
--- only for a text that begins as a script does
+-- what reading answers: an accepted witness has the numbers and the sightings that the lines spell
 abbrev pub Reads : List ℕ → Result Witness ScriptFault → Type 0
 Reads text (Ok w) = SpellsWitness text w.threads w.locks w.conds w.permits.items w.sightings.items
 Reads text (Err (BadLine number)) = IsFirstBad text number
-Reads text (Err NoMemory) = open_at text ≢ None
+Reads text (Err NoMemory) = WantsMemory text

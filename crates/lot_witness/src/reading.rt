@@ -1,8 +1,9 @@
 //! The lines of a witness behind its first.
-ghost use Rattle.std.specs.Prelude.{◌≡◌, ◌≢◌, ℕ, ◌<◌, ◌+◌, ◌++◌, ◌∷◌, [], IfOk, IfSome, IfNone};
+ghost use Rattle.std.specs.Prelude.{◌≡◌, ◌≢◌, ℕ, ◌<◌, ◌+◌, List, ◌++◌, ◌∷◌, [], None, IfSome, IfNone};
 ghost use Rattle.lot_events.specs.declared.events.Event.{Event};
 ghost use Rattle.lot_events.specs.declared.events.Seen.{Seen};
 ghost use Rattle.lot_events.specs.Spelling.{field, Spells};
+ghost use Rattle.lot_core.specs.Reading.{field_at, ReadsNumbers};
 ghost use Rattle.lot_witness.specs.declared.witness.Sighting.{Sighting};
 ghost use Rattle.lot_witness.specs.Spelling.{IsSightOf, TellsTruth, TellsNothing, TellsSleeper, TellsCount, told};
 ghost use Rattle.lot_witness.specs.Spelling.{SpellsSighting, BeginsWith, NoSighting};
@@ -10,7 +11,6 @@ ghost use Rattle.lot_witness.specs.Spelling.{SpellsSighting, BeginsWith, NoSight
 use crate::witness::Sighting;
 use lot_events::reading::{event_of, field};
 use lot_events::{Event, Seen};
-use std::alloc::{AllocError, Global};
 
 // The number that is all that stands there, behind a space.
 fn number(text: &[u8]) -> Option<usize>
@@ -103,50 +103,65 @@ fn only_event(line: &[u8]) -> Option<Event>
     Some(event)
 }
 
-// The same of a line without its end.
-fn event_in(alloc: Global, front: &[u8]) -> Result<Option<Event>, AllocError>
-    ensures some { IfOk result (λ o. IfSome o (Spells (front.now ++ 10 ∷ []))) }
-    ensures none { IfOk result (λ o. IfNone o ((e : Event) → ¬ Spells (front.now ++ 10 ∷ []) e)) }
+// The most bytes that the line of an event has, its end too: a word of six letters, and four numbers of four digits.
+const LONGEST: usize = 27;
+
+// The same of a line without its end. It is read from an array, where the end stands behind it: no memory is wanted.
+fn event_in(front: &[u8]) -> Option<Event>
+    ensures some { IfSome result (Spells (front.now ++ 10 ∷ [])) }
+    ensures none { IfNone result ((e : Event) → ¬ Spells (front.now ++ 10 ∷ []) e) }
 {
-    let mut line = Vec::new(alloc);
-    line.extend_from_slice(front)?;
-    line.push(b'\n')?;
-    Ok(only_event(line.as_slice()))
+    let end = front.len();
+    let mut line = [b'\n'; LONGEST];
+    if end >= line.len() {
+        return None;
+    }
+    line[..end].copy_from_slice(front);
+    only_event(&line[..end + 1])
 }
 
 // What the line tells, of which the end is left out: what was seen stands behind its last space.
-fn sighting_of(alloc: Global, line: &str) -> Result<Option<Sighting>, AllocError>
-    ensures some { IfOk result (λ o. IfSome o (λ x. SpellsSighting (line.now ++ 10 ∷ []) x)) }
-    ensures none { IfOk result (λ o. IfNone o ((x : Sighting) → ¬ SpellsSighting (line.now ++ 10 ∷ []) x)) }
+fn sighting_of(line: &str) -> Option<Sighting>
+    ensures some { IfSome result (λ x. SpellsSighting (line.now ++ 10 ∷ []) x) }
+    ensures none { IfNone result ((x : Sighting) → ¬ SpellsSighting (line.now ++ 10 ∷ []) x) }
 {
     let Some(space) = line.rfind(' ') else {
-        return Ok(None);
+        return None;
     };
     let bytes = line.as_bytes();
     let front = &bytes[..space];
     let told = &bytes[space..];
-    let Some(event) = event_in(alloc, front)? else {
-        return Ok(None);
+    let Some(event) = event_in(front) else {
+        return None;
     };
     let Some(saw) = seen_of(event, told) else {
-        return Ok(None);
+        return None;
     };
-    Ok(Some(Sighting { event, saw }))
+    Some(Sighting { event, saw })
 }
 
 /// What the first line tells, and what stands behind that line.
-pub(crate) fn first_sighting(
-    alloc: Global,
-    text: &str,
-) -> Result<Option<(Sighting, &str)>, AllocError>
-    ensures some { IfOk result (λ o. IfSome o (λ x. BeginsWith text.now x.0 x.1.now)) }
-    ensures none { IfOk result (λ o. IfNone o (NoSighting text.now)) }
+pub(crate) fn first_sighting(text: &str) -> Option<(Sighting, &str)>
+    ensures some { IfSome result (λ x. BeginsWith text.now x.0 x.1.now) }
+    ensures none { IfNone result (NoSighting text.now) }
 {
     let Some((line, rest)) = text.split_once('\n') else {
-        return Ok(None);
+        return None;
     };
-    let Some(sighting) = sighting_of(alloc, line)? else {
-        return Ok(None);
+    let Some(sighting) = sighting_of(line) else {
+        return None;
     };
-    Ok(Some((sighting, rest)))
+    Some((sighting, rest))
+}
+
+/// What stands behind the numbers at the front, each of them behind a space.
+pub(crate) fn behind_numbers(text: &[u8]) -> &[u8]
+    ensures read { (numbers : List ℕ) × ReadsNumbers text.now numbers result.now }
+    ensures all { field_at result.now ≡ None }
+{
+    let mut rest = text;
+    while let Some((_, behind)) = field(rest) {
+        rest = behind;
+    }
+    rest
 }
