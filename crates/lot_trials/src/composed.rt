@@ -30,7 +30,7 @@ const COND: usize = 1;
 const NOW: Moment = Moment { now: 0, word: 7 };
 
 /// Gets the lock when the count is so much: what a caller has of `lock_until`.
-fn own_at<N: LotName<Count> + Send + Sync, T: Wait + Abort>(
+fn own_at<N: LotName<Count> + Send + Sync, T: Wait>(
     rt: &T,
     lot: &Lot<Count, N>,
     pass: Pass<Count, N>,

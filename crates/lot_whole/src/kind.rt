@@ -7,11 +7,11 @@ use std::marker::PhantomData;
 
 /// The words of a whole lot: of its locks, conditions and semaphores, with a slot for each lock's value. Contracts
 /// alone read it.
-pub struct Lot<V> {
+pub struct WholeLot<V> {
     of: PhantomData<V>,
 }
 
-impl<V: Keeps> Kind for Lot<V> {
+impl<V: Keeps> Kind for WholeLot<V> {
     ghost use Rattle.lot_whole.specs.Rule.{meaning, one_outcome_of, no_letter_of};
     ghost use Rattle.lot_whole.specs.Lot.{no_pass, no_root, names};
 
@@ -39,11 +39,11 @@ impl<V: Keeps> Kind for Lot<V> {
 }
 
 /// The right to act as one thread. Contracts see it as a `PassShown`, whose `own` is a `LotPassView`.
-pub type LotPass<V> = PassOf<Lot<V>>;
+pub type LotPass<V> = PassOf<WholeLot<V>>;
 
 /// The right to change the line of one key, of whatever kind. Contracts see it as a `RootShown`, whose `own` is a
 /// `LotRootView`.
-pub type LotRoot<V> = RootOf<Lot<V>>;
+pub type LotRoot<V> = RootOf<WholeLot<V>>;
 
 /// A root as it lies in a bucket or in a list, which takes no bytes; contracts see it as a `LotRoot`.
-pub type LotLyingRoot<V> = LyingRootOf<Lot<V>>;
+pub type LotLyingRoot<V> = LyingRootOf<WholeLot<V>>;

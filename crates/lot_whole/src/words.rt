@@ -6,7 +6,7 @@ ghost use Rattle.lot_rights.specs.Layout.{word_at};
 ghost use Rattle.lot_whole.specs.Family.{key_count};
 ghost use Rattle.lot_whole.specs.Rule.{size_of};
 
-use crate::kind::Lot;
+use crate::kind::WholeLot;
 use lot_rights::{OfOpening, WordsOf};
 use lot_words::Keeps;
 use lot_words::exclusive::Exclusive;
@@ -20,7 +20,7 @@ pub(crate) use lot_words::{HELD, HELD_AND_PARKED, PARKED as LOCK_PARKED, UNHELD}
 /// The words of all locks, conditions and semaphores, the letters of all threads, and a slot for each lock's value,
 /// under one rule.
 pub struct LotWords<V: Keeps> {
-    pub(crate) words: WordsOf<Lot<V>>,
+    pub(crate) words: WordsOf<WholeLot<V>>,
     // `close` puts the values here.
     pub(crate) room: Exclusive<Vec<V>>,
     pub(crate) ghost some: { 0 < words.key.threads },
