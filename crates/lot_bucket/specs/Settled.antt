@@ -34,7 +34,7 @@ module _ {R : Type 0} (view : R → KeyLine) where
     pub laid_out : IsLaidOut size number keys b
 
   -- the open bucket of key k, among so many keys, with room for just all threads
-  pub record IsReady (k threads keys : ℕ) (b : Contents R) : Type 0 where
+  pub record IsReadyFor (k threads keys : ℕ) (b : Contents R) : Type 0 where
     pub agrees : Agrees view b
     pub is_open : b.opened ≡ true
     pub size : ℕ

@@ -1,6 +1,6 @@
 ghost use Rattle.std.specs.Prelude.{◌≡◌, ◌<◌, ◌%◌, ◌↔◌, true, IsTrue};
 ghost use Rattle.lot_bucket.specs.Contents.{hollow};
-ghost use Rattle.lot_bucket.specs.Settled.{IsSettled, IsWhole, IsReady, HasPlaceFor, Stays};
+ghost use Rattle.lot_bucket.specs.Settled.{IsSettled, IsWhole, IsReadyFor, HasPlaceFor, Stays};
 
 use crate::bucket::Bucket;
 use crate::root::Root;
@@ -68,7 +68,7 @@ impl<R: Root> Settled<R> {
     /// Whether it is the open bucket of the key, in a table of `size` buckets for so many keys, with room for just all
     /// threads.
     pub fn is_ready(&self, key: usize, size: usize, threads: usize, keys: usize) -> bool
-        ensures ready { IsTrue result → IsReady R.view key threads keys self.now.bucket }
+        ensures ready { IsTrue result → IsReadyFor R.view key threads keys self.now.bucket }
         ensures exact { IsTrue result ↔ (self.now.bucket.opened ≡ true) × (0 < size) × (self.now.size ≡ size)
             × (self.now.number ≡ key % size) × (self.now.keys ≡ keys) × (key < keys)
             × (self.now.bucket.room ≡ threads) }

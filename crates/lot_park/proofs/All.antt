@@ -11,7 +11,8 @@ taken_all : (threads n : ℕ) (line : List ℕ) (taken : ℕ) (more : Bool) → 
 taken_all threads n line taken more all told = omega (arith, all, told.number, told.short)
 
 pub unparked_all : {R X : Type 0} (view : R → KeyLine) (threads k n : ℕ) (lies : Contents R → Type 0) (answers : R → ℕ → X × R → Type 0)
-    (result : X × ℕ) → n ≡ threads → UnparkedCount view threads k n lies (λ root taken more. answers root taken) result → UnparkedAll view k answers result
+    (result : X × ℕ) → n ≡ threads → UnparkedCount view threads k n lies (λ root taken more. answers root taken) result
+    → UnparkedAll view k answers result
 unparked_all view threads k n lies answers result all u =
     record {
       root = u.root;

@@ -58,7 +58,7 @@ impl<S: Scheme> Model for ParkingLot<S> {
 impl<S: Scheme> ParkingLot<S> {
     ghost use Rattle.lot_park.specs.Lots.{ParkingView, AreIdle, Appends};
     ghost use Rattle.lot_table.specs.Sizes.{Serves};
-    ghost use Rattle.lot_bucket.specs.Settled.{HasPlaceFor, IsReady, Stays};
+    ghost use Rattle.lot_bucket.specs.Settled.{HasPlaceFor, IsReadyFor, Stays};
     ghost use Rattle.lot_park.specs.Parking.{IsOpenFor, MayUnpark, Unparks, UnparkedOne, MayUnparkAll, UnparksAll};
     ghost use Rattle.lot_park.specs.Parking.{UnparkedAll, MayUnparkCount, UnparksCount, UnparkedCount, MayValidate};
     ghost use Rattle.lot_park.specs.Parking.{Validates, Validated, Awaited, ParkedActing, ParkedOnce};
@@ -228,7 +228,7 @@ impl<S: Scheme> ParkingLot<S> {
         requires key { key < self.now.keys }
         requires callable { MayUnpark S.Root.view key moment.now (F.pre callback x) }
         requires keeps { Unparks S.Root.view (λ (t : Token). t.0) key moment.now (F.post callback x) }
-        ensures { UnparkedOne S.Root.view key moment (λ b. IsReady S.Root.view key self.now.threads self.now.keys b)
+        ensures { UnparkedOne S.Root.view key moment (λ b. IsReadyFor S.Root.view key self.now.threads self.now.keys b)
             (F.post callback x) result }
     {
         let scheme = &self.scheme;
@@ -292,7 +292,7 @@ impl<S: Scheme> ParkingLot<S> {
         requires callable { MayUnparkCount S.Root.view self.now.threads key count (F.pre f x) }
         requires keeps { UnparksCount S.Root.view self.now.threads key count (F.post f x) }
         ensures { UnparkedCount S.Root.view self.now.threads key count
-            (λ b. IsReady S.Root.view key self.now.threads self.now.keys b) (F.post f x) result }
+            (λ b. IsReadyFor S.Root.view key self.now.threads self.now.keys b) (F.post f x) result }
     {
         let scheme = &self.scheme;
         let (y, taken) = self.table.with_bucket(

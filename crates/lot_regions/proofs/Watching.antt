@@ -76,7 +76,8 @@ calmed_steady : (point : ℕ → Point) (t : ℕ) → ((c : ℕ) → point t ≡
 calmed_steady point t not_sweeping = record {
   sweeping = λ u c. at_all (λ u b. point u ≡ Sweeps c → (if b then Calm else point u) ≡ Sweeps c) t
       (λ is. absurd (not_sweeping c is)) (λ u ne is. is) u;
-  waking = at_all (λ u b. IsCalmOrSweeps (point u) → IsCalmOrSweeps (if b then Calm else point u)) t (λ awake. inl refl) (λ u ne awake. awake);
+  waking = at_all (λ u b. IsCalmOrSweeps (point u) → IsCalmOrSweeps (if b then Calm else point u)) t
+      (λ awake. inl refl) (λ u ne awake. awake);
 }
 
 handed_steady : (point : ℕ → Point) (xs : List ℕ) → ((u c : ℕ) → Contains xs u → point u ≡ Sweeps c → ⊥) → IsSteady point (handed point xs)
@@ -364,7 +365,8 @@ module _ {V : Type 0} (lock_of : ℕ → ℕ) (ready : ℕ → V → Bool) where
     ];
     outside = h.outside;
     awake = λ u d owes.
-        at_all (λ w b. IsCalmOrSweeps (s.point w) → IsCalmOrSweeps (if b then Sweeps c else s.point w)) t (λ awake. inr (c, refl)) (λ w ne awake. awake) u
+        at_all (λ w b. IsCalmOrSweeps (s.point w) → IsCalmOrSweeps (if b then Sweeps c else s.point w)) t
+        (λ awake. inr (c, refl)) (λ w ne awake. awake) u
         (h.awake u d (owed_before g t c u d owes));
   }
   watch_kept s g (Sweep t c) v sound h ok keeps =

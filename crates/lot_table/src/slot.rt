@@ -2,7 +2,7 @@
 
 ghost use Rattle.std.specs.Prelude.{◌≡◌, ◌%◌, IfSome};
 ghost use Rattle.std.specs.Sync.Mutex.{mutex_guard_value};
-ghost use Rattle.lot_bucket.specs.Settled.{IsReady};
+ghost use Rattle.lot_bucket.specs.Settled.{IsReadyFor};
 
 use lot_bucket::{Root, Settled};
 use std::marker::Model;
@@ -55,7 +55,7 @@ impl<R: Root> Slot<R> {
     ) -> Option<MutexGuard<'_, Settled<R>>>
         requires size { self.now.size ≡ size }
         requires number { self.now.number ≡ key % size }
-        ensures ready { IfSome result (λ g. IsReady R.view key threads keys (mutex_guard_value g).bucket) }
+        ensures ready { IfSome result (λ g. IsReadyFor R.view key threads keys (mutex_guard_value g).bucket) }
         ensures number { IfSome result (λ g. (mutex_guard_value g).number ≡ self.now.number) }
         ensures size { IfSome result (λ g. (mutex_guard_value g).size ≡ self.now.size) }
     {

@@ -1,7 +1,7 @@
 ghost use Rattle.std.specs.Prelude.{◌≡◌, ℕ, ◌+◌, ◌*◌, ◌<◌, ◌≤◌, ◌%◌, true, false, length, vec_len, vec_capacity, Some};
 ghost use Rattle.std.specs.Prelude.{IfOk, IfErr, MatchOption};
 ghost use Rattle.std.specs.Sync.Mutex.{mutex_guard_value};
-ghost use Rattle.lot_bucket.specs.Settled.{IsReady, HasPlaceFor, Stays};
+ghost use Rattle.lot_bucket.specs.Settled.{IsReadyFor, HasPlaceFor, Stays};
 ghost use Rattle.lot_table.specs.Roots.{AreIdle, Appends};
 ghost use Rattle.lot_table.specs.Sizes.{Serves, grown_size_of, first_size_of};
 ghost use Rattle.lot_table.specs.Buckets.{AreFresh, AreFilled, IsMove};
@@ -130,10 +130,10 @@ impl<R: Root> Table<R> {
         x: X,
         f: F,
     ) -> Y
-        requires callable { (b : _) → IsReady R.view key self.now.threads self.now.keys b.now → F.pre f b x }
-        requires keeps { (b : _) (r : _) (b' : _) → IsReady R.view key self.now.threads self.now.keys b.now
+        requires callable { (b : _) → IsReadyFor R.view key self.now.threads self.now.keys b.now → F.pre f b x }
+        requires keeps { (b : _) (r : _) (b' : _) → IsReadyFor R.view key self.now.threads self.now.keys b.now
             → F.post f b x r b' → Stays R.view b.now b'.now }
-        ensures { (b : _) × (b' : _) × IsReady R.view key self.now.threads self.now.keys b.now × F.post f b x result b'
+        ensures { (b : _) × (b' : _) × IsReadyFor R.view key self.now.threads self.now.keys b.now × F.post f b x result b'
             × Stays R.view b.now b'.now }
     {
         let mut guard = self.lock_ready(rt, key);
@@ -151,11 +151,11 @@ impl<R: Root> Table<R> {
         x: X,
         f: F,
     ) -> (Y, Unlocked)
-        requires callable { (b : _) → IsReady R.view key self.now.threads self.now.keys b.now
+        requires callable { (b : _) → IsReadyFor R.view key self.now.threads self.now.keys b.now
             → HasPlaceFor thread b.now → F.pre f b x }
-        requires keeps { (b : _) (r : _) (b' : _) → IsReady R.view key self.now.threads self.now.keys b.now
+        requires keeps { (b : _) (r : _) (b' : _) → IsReadyFor R.view key self.now.threads self.now.keys b.now
             → HasPlaceFor thread b.now → F.post f b x r b' → Stays R.view b.now b'.now }
-        ensures { (b : _) × (b' : _) × IsReady R.view key self.now.threads self.now.keys b.now
+        ensures { (b : _) × (b' : _) × IsReadyFor R.view key self.now.threads self.now.keys b.now
             × HasPlaceFor thread b.now × F.post f b x result.0 b' × Stays R.view b.now b'.now }
     {
         let mut guard = self.lock_with_place(rt, key, thread);
@@ -166,7 +166,7 @@ impl<R: Root> Table<R> {
     }
 
     fn lock_ready<W: Wait>(&self, rt: &W, key: usize) -> MutexGuard<'_, Settled<R>>
-        ensures { IsReady R.view key self.now.threads self.now.keys (mutex_guard_value result).bucket }
+        ensures { IsReadyFor R.view key self.now.threads self.now.keys (mutex_guard_value result).bucket }
     {
         for _ in rt.forever() {
             let version = self.versions.newest().version;
@@ -186,7 +186,7 @@ impl<R: Root> Table<R> {
         key: usize,
         thread: usize,
     ) -> MutexGuard<'_, Settled<R>>
-        ensures ready { IsReady R.view key self.now.threads self.now.keys (mutex_guard_value result).bucket }
+        ensures ready { IsReadyFor R.view key self.now.threads self.now.keys (mutex_guard_value result).bucket }
         ensures place { HasPlaceFor thread (mutex_guard_value result).bucket }
     {
         for _ in rt.forever() {

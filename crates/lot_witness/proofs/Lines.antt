@@ -15,7 +15,7 @@ use Rattle.lot_events.specs.Reading.{field_at, event_at}
 use Rattle.lot_events.proofs.Figures.{some_is, field_takes, field_again}
 use Rattle.lot_events.proofs.Spelled.{event_again}
 use Rattle.lot_witness.specs.declared.witness.Sighting.{Sighting}
-use Rattle.lot_witness.specs.Spelling.{told, TellsTruth, TellsNothing, TellsSleeper, TellsCount, IsSightOf, SpellsSighting}
+use Rattle.lot_witness.specs.Spelling.{told, TellsTruth, TellsNothing, TellsSleeper, TellsNumber, IsSightOf, SpellsSighting}
 use Rattle.lot_witness.proofs.Clean.{clean, clean_append, clean_at, clean_decimal, clean_front, IsOneLine}
 
 -- a number that is all that stands there
@@ -73,12 +73,12 @@ sleeper_told (Sleeper None) tells = record { word = codes "-"; is = refl; no_spa
 sleeper_told (Sleeper (Some t)) tells = number_told (Sleeper (Some t)) t refl tells
 sleeper_told _ tells = absurd tells
 
-pub count_told : (saw : Seen) → TellsCount saw → IsTold saw
+pub count_told : (saw : Seen) → TellsNumber saw → IsTold saw
 count_told (Count n) tells = number_told (Count n) n refl tells
 count_told _ tells = absurd tells
 
 -- what holds of the four kinds of sight holds of what any event can see
-pub by_sight : (P : (Seen → Type 0) → Type 0) → P TellsTruth → P TellsNothing → P TellsSleeper → P TellsCount
+pub by_sight : (P : (Seen → Type 0) → Type 0) → P TellsTruth → P TellsNothing → P TellsSleeper → P TellsNumber
     → (e : Event) → P (IsSightOf e)
 by_sight P truth nothing sleeper count (event.Mark t l) = nothing
 by_sight P truth nothing sleeper count (event.Pass t l fair more) = sleeper

@@ -18,7 +18,7 @@ use Rattle.lot_core.specs.Script.{Opening}
 use Rattle.lot_core.specs.Reading.{ReadsNumbers}
 use Rattle.lot_core.proofs.Openings.{opening_takes, same_numbers, same_opening, SameOpening}
 use Rattle.lot_witness.specs.declared.witness.Sighting.{Sighting}
-use Rattle.lot_witness.specs.Spelling.{told, TellsTruth, TellsNothing, TellsSleeper, TellsCount, IsSightOf, SpellsSighting, BeginsWith}
+use Rattle.lot_witness.specs.Spelling.{told, TellsTruth, TellsNothing, TellsSleeper, TellsNumber, IsSightOf, SpellsSighting, BeginsWith}
 use Rattle.lot_witness.specs.Spelling.{NoSighting, BeginsWithAll, AreAll, Opens, SpellsWitness, IsBadLine}
 use Rattle.lot_witness.specs.Spelling.{IsFirstBad, AreGood, WantsMemory}
 use Rattle.lot_witness.proofs.Clean.{clean, clean_at, IsOneLine, line_is_one}
@@ -166,7 +166,7 @@ same_sleeper (Sleeper (Some n)) (Sleeper (Some m)) p q is = ap (λ k. Sleeper (S
 same_sleeper (Sleeper _) _ p q is = absurd q
 same_sleeper _ _ p q is = absurd p
 
-pub same_count : (a b : Seen) → TellsCount a → TellsCount b → told a ≡ told b → a ≡ b
+pub same_count : (a b : Seen) → TellsNumber a → TellsNumber b → told a ≡ told b → a ≡ b
 same_count (Count n) (Count m) p q is = ap Count (same_number n m p q is)
 same_count (Count _) _ p q is = absurd q
 same_count _ _ p q is = absurd p

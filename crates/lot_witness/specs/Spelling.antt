@@ -36,9 +36,9 @@ TellsSleeper (Sleeper None) = Unit {0}
 TellsSleeper (Sleeper (Some t)) = IsSmall t
 TellsSleeper _ = ⊥
 
-abbrev pub TellsCount : Seen → Type 0
-TellsCount (Count n) = IsSmall n
-TellsCount _ = ⊥
+abbrev pub TellsNumber : Seen → Type 0
+TellsNumber (Count n) = IsSmall n
+TellsNumber _ = ⊥
 
 -- an event of this kind can see that
 abbrev pub IsSightOf : Event → Seen → Type 0
@@ -50,9 +50,9 @@ IsSightOf (Free t l) = TellsTruth
 IsSightOf (Pass t l fair more) = TellsSleeper
 IsSightOf (Enlist t c l) = TellsNothing
 IsSightOf (Look t c) = TellsTruth
-IsSightOf (Call t c n more) = TellsCount
+IsSightOf (Call t c n more) = TellsNumber
 IsSightOf (Lower t c) = TellsNothing
-IsSightOf (Sweep t c) = TellsCount
+IsSightOf (Sweep t c) = TellsNumber
 IsSightOf (SemTake t k) = TellsTruth
 IsSightOf (SemMark t k) = TellsNothing
 IsSightOf (SemPark t k) = TellsTruth

@@ -5,7 +5,7 @@ ghost use Rattle.lot_events.specs.declared.events.Seen.{Seen};
 ghost use Rattle.lot_events.specs.Spelling.{field, Spells};
 ghost use Rattle.lot_core.specs.Reading.{field_at, ReadsNumbers};
 ghost use Rattle.lot_witness.specs.declared.witness.Sighting.{Sighting};
-ghost use Rattle.lot_witness.specs.Spelling.{IsSightOf, TellsTruth, TellsNothing, TellsSleeper, TellsCount, told};
+ghost use Rattle.lot_witness.specs.Spelling.{IsSightOf, TellsTruth, TellsNothing, TellsSleeper, TellsNumber, told};
 ghost use Rattle.lot_witness.specs.Spelling.{SpellsSighting, BeginsWith, NoSighting};
 
 use crate::witness::Sighting;
@@ -58,8 +58,8 @@ fn sleeper(text: &[u8]) -> Option<Seen>
 }
 
 fn count(text: &[u8]) -> Option<Seen>
-    ensures some { IfSome result (λ saw. TellsCount saw × (text.now ≡ told saw)) }
-    ensures none { IfNone result ((saw : Seen) → TellsCount saw → text.now ≢ told saw) }
+    ensures some { IfSome result (λ saw. TellsNumber saw × (text.now ≡ told saw)) }
+    ensures none { IfNone result ((saw : Seen) → TellsNumber saw → text.now ≢ told saw) }
 {
     let count = number(text)?;
     Some(Seen::Count(count))

@@ -1,7 +1,7 @@
 //! The table of buckets: it grows as threads come, and each line keeps its order.
 ghost use Rattle.std.specs.Prelude.{◌≡◌, ℕ, ◌<◌, ◌≤◌, length, drop};
 ghost use Rattle.lot_bucket.specs.Queue.{line_of, first_of};
-ghost use Rattle.lot_bucket.specs.Settled.{IsReady, Stays};
+ghost use Rattle.lot_bucket.specs.Settled.{IsReadyFor, Stays};
 
 use super::askings::{ASKINGS, is_within};
 use super::rights::{EARLY, Right, idle_rights, joined};
@@ -95,7 +95,7 @@ fn it_grows_as_threads_come(rt: HostRuntime) {
 
 // Queues the thread on the key, in the bucket and in the root's line.
 fn join_in(rt: &impl Abort, bucket: &mut Bucket<Right>, key: usize, thread: usize)
-    requires ready { (threads keys : ℕ) × IsReady ⟦<Right as Root>⟧.view key threads keys bucket.old }
+    requires ready { (threads keys : ℕ) × IsReadyFor ⟦<Right as Root>⟧.view key threads keys bucket.old }
     requires room { length bucket.old.queue < bucket.old.room }
     ensures { Stays ⟦<Right as Root>⟧.view bucket.old bucket.new }
 {
@@ -128,7 +128,7 @@ fn advanced(right: Right) -> Right
 
 // Takes the first thread of the key, from the bucket and from the root's line.
 fn leave_from(bucket: &mut Bucket<Right>, key: usize) -> Option<usize>
-    requires { (threads keys : ℕ) × IsReady ⟦<Right as Root>⟧.view key threads keys bucket.old }
+    requires { (threads keys : ℕ) × IsReadyFor ⟦<Right as Root>⟧.view key threads keys bucket.old }
     ensures first { result ≡ first_of (line_of key bucket.old.queue) }
     ensures stays { Stays ⟦<Right as Root>⟧.view bucket.old bucket.new }
 {

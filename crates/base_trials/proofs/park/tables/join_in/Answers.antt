@@ -4,7 +4,7 @@ use Rattle.lot_bucket.specs.Places.{root_at, with_root}
 use Rattle.lot_bucket.specs.Contents.{Contents}
 use Rattle.lot_bucket.specs.KeyLine.{KeyLine}
 use Rattle.lot_bucket.specs.Agrees.{IsRootOf}
-use Rattle.lot_bucket.specs.Settled.{IsReady, Stays}
+use Rattle.lot_bucket.specs.Settled.{IsReadyFor, Stays}
 use Rattle.lot_bucket.proofs.Laws.{line_of-push_same, line_of-push_other, has_key-with, root_at-with_same, root_taken}
 use Rattle.base_trials.proofs.Lending.{back_stays}
 use Rattle.base_trials.specs.declared.park.rights.Right.{Right}
@@ -14,7 +14,7 @@ use Rattle.base_trials.proofs.park.tables.join_in.Goals as goal
 
 -- with the thread queued last and the root back, the bucket stays what it was
 joined_stays : {R : Type 0} (view : R → KeyLine) (k t threads keys : ℕ) (before out queued after : Contents R) (root back : R)
-    → IsReady view k threads keys before → root_at k before.places ≡ Some root
+    → IsReadyFor view k threads keys before → root_at k before.places ≡ Some root
     → out ≡ record before { places = with_root k None before.places } → queued ≡ record out { queue = out.queue ++ (t, k) ∷ [] }
     → after ≡ record queued { places = with_root k (Some back) queued.places }
     → (view back).key ≡ (view root).key → (view back).line ≡ (view root).line ++ t ∷ [] → (view back).owes ≡ (view root).owes

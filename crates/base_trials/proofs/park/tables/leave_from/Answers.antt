@@ -4,7 +4,7 @@ use Rattle.lot_bucket.specs.Places.{has_key, root_at, with_root}
 use Rattle.lot_bucket.specs.Contents.{Contents}
 use Rattle.lot_bucket.specs.KeyLine.{KeyLine}
 use Rattle.lot_bucket.specs.Agrees.{IsRootOf}
-use Rattle.lot_bucket.specs.Settled.{IsReady, Stays}
+use Rattle.lot_bucket.specs.Settled.{IsReadyFor, Stays}
 use Rattle.lot_bucket.specs.Taking.{TakesOne}
 use Rattle.lot_bucket.specs.declared.taking.Moment.{Moment}
 use Rattle.lot_bucket.specs.declared.taking.Dequeued.{Dequeued}
@@ -16,7 +16,7 @@ use Rattle.base_trials.proofs.park.tables.leave_from.Goals as goal
 -- with the first thread gone and the root back, the bucket stays what it was
 left_stays : {R : Type 0} (view : R → KeyLine) (k threads keys : ℕ) (moment : Moment) (before out taken after : Contents R)
     (told : Dequeued) (root back : R)
-    → IsReady view k threads keys before → root_at k before.places ≡ Some root
+    → IsReadyFor view k threads keys before → root_at k before.places ≡ Some root
     → out ≡ record before { places = with_root k None before.places } → TakesOne k moment out taken told
     → after ≡ record taken { places = with_root k (Some back) taken.places }
     → (view back).key ≡ (view root).key → (view back).line ≡ drop 1 (view root).line → (view back).owes ≡ (view root).owes

@@ -1,5 +1,5 @@
 use Rattle.std.proofs.Common.{subst}
-use Rattle.lot_bucket.specs.Settled.{IsReady}
+use Rattle.lot_bucket.specs.Settled.{IsReadyFor}
 use Rattle.lot_park.specs.Lots.{ParkingView}
 use Rattle.lot_park.proofs.Under.{one_found}
 use denote.Exit.{no}
@@ -15,7 +15,7 @@ with_bucket-y-requires-clause-callable g c κs within = λ b ready. (
 pub returns : goal.returns
 returns g c =
     let (bucket, after, ready, post, stays) = c.with_bucket-y.ensures in
-    one_found g.S.Root.Root.view c.args.key (λ b. IsReady g.S.Root.Root.view c.args.key c.args.self.now.threads c.args.self.now.keys b)
+    one_found g.S.Root.Root.view c.args.key (λ b. IsReadyFor g.S.Root.Root.view c.args.key c.args.self.now.threads c.args.self.now.keys b)
     bucket.now
-    (subst (λ (v : ParkingView g.row.S.Denot). IsReady g.S.Root.Root.view c.args.key v.threads v.keys bucket.now) c.self.view_is ready)
+    (subst (λ (v : ParkingView g.row.S.Denot). IsReadyFor g.S.Root.Root.view c.args.key v.threads v.keys bucket.now) c.self.view_is ready)
     c.args.moment (goal.F-post g c.args.callback c.args.x) c.with_bucket-y.result post.1

@@ -1,18 +1,18 @@
 use Rattle.std.proofs.Common.{◌≡◌, sym, ap, subst, ◌∙◌}
 use Rattle.std.specs.Sync.Mutex.{mutex_guard_value}
 use Rattle.lot_bucket.specs.Contents.{Contents}
-use Rattle.lot_bucket.specs.Settled.{Lying, IsReady, HasPlaceFor}
+use Rattle.lot_bucket.specs.Settled.{Lying, IsReadyFor, HasPlaceFor}
 use Rattle.lot_table.proofs.table.Table.with_place_for.Given.{Over}
 use Rattle.lot_table.proofs.table.Table.with_place_for.Goals.{After-deref_mut-settled}
 use Rattle.lot_table.proofs.table.Table.with_place_for.Goals as goal
 
 -- a bucket that is the guarded one is ready, and has a place
 ready : (g : Over) (c : After-deref_mut-settled g) (b : Contents g.row.R.Denot) → b ≡ c.deref_mut-settled.result.now.bucket
-    → IsReady g.R.Root.view c.args.key c.args.self.now.threads c.args.self.now.keys b × HasPlaceFor c.args.thread b
+    → IsReadyFor g.R.Root.view c.args.key c.args.self.now.threads c.args.self.now.keys b × HasPlaceFor c.args.thread b
 ready g c b same =
     let is : b ≡ (mutex_guard_value c.lock_with_place-guard.result).bucket =
     same ∙ ap (λ (l : Lying g.row.R.Denot). l.bucket) c.deref_mut-settled.ensures.value in (
-      subst (λ (x : Contents g.row.R.Denot). IsReady g.R.Root.view c.args.key c.args.self.now.threads c.args.self.now.keys x)
+      subst (λ (x : Contents g.row.R.Denot). IsReadyFor g.R.Root.view c.args.key c.args.self.now.threads c.args.self.now.keys x)
           (sym is) c.lock_with_place-guard.ensures.ready,
       subst (λ (x : Contents g.row.R.Denot). HasPlaceFor c.args.thread x) (sym is) c.lock_with_place-guard.ensures.place,
     )
