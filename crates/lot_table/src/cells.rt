@@ -30,17 +30,24 @@ impl<'a, R: Root> Model for Unset<'a, R> {
 }
 
 /// Whether a call has published a version. Only `publish` says that it has.
+///
+/// Each spends a `G`. A call that is given one, and knows nothing of the type, can't make a second `Growing<G>`: so the
+/// one that it hands over tells of all that it has published.
 #[derive(Drop)]
-pub struct Growing {
+pub struct Growing<G> {
     has_grown: bool,
+    spent: G,
 }
 
-impl Growing {
+impl<G> Growing<G> {
     /// It has published nothing yet.
-    pub fn new() -> Growing
+    pub fn new(once: G) -> Growing<G>
         ensures { result.has_grown ≡ false }
     {
-        Growing { has_grown: false }
+        Growing {
+            has_grown: false,
+            spent: once,
+        }
     }
 }
 
@@ -59,10 +66,10 @@ pub fn look<R: Root>(cell: &OnceLock<Version<R>>) -> Result<Found<'_, R>, Unset<
 }
 
 /// Publishes the version in the cell, once in a call, or gives it back where the cell was set meanwhile.
-pub fn publish<'a, R: Root>(
+pub fn publish<'a, R: Root, G>(
     unset: &Unset<'a, R>,
     version: Version<R>,
-    growing: &mut Growing,
+    growing: &mut Growing<G>,
 ) -> Result<Found<'a, R>, Version<R>>
     requires { growing.old.has_grown ≡ false }
     ensures published { IfOk result (λ f. (f.token.of ≡ unset.now.id) × (f.version.now ≡ version)) }

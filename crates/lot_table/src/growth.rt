@@ -34,7 +34,7 @@ impl Grower {
     ///
     /// Where a bucket of `version` is not in use, where more than `threads` wait, or where the cell is set, it
     /// lets all locks go, publishes none, and nothing has changed.
-    pub fn grow<'a, W: Wait, R: Root>(
+    pub fn grow<'a, W: Wait, R: Root, G>(
         &self,
         rt: &W,
         version: &Version<R>,
@@ -42,7 +42,7 @@ impl Grower {
         size: usize,
         keys: usize,
         threads: usize,
-        growing: &mut Growing,
+        growing: &mut Growing<G>,
     ) -> Result<Option<(Found<'a, R>, Filled<R>)>, TableFault>
         requires size { 0 < size }
         requires first { growing.old.has_grown ≡ false }
@@ -123,7 +123,7 @@ fn abandon<W: Wait, R: Root>(
     grown.discard(rt);
 }
 
-fn grow_with<'a, 'b, W: Wait, R: Root>(
+fn grow_with<'a, 'b, W: Wait, R: Root, G>(
     rt: &W,
     alloc: Global,
     version: &'b Version<R>,
@@ -131,7 +131,7 @@ fn grow_with<'a, 'b, W: Wait, R: Root>(
     supplies: Supplies<'b, R>,
     keys: usize,
     threads: usize,
-    growing: &mut Growing,
+    growing: &mut Growing<G>,
 ) -> Option<(Found<'a, R>, Filled<R>)>
     requires guards { (vec_len supplies.guards ≡ 0) × (version.now.size ≤ vec_capacity supplies.guards) }
     requires old { (supplies.old.items ≡ []) × (version.now.size ≤ vec_capacity supplies.old) }

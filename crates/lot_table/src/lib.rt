@@ -24,7 +24,9 @@
 
 mod cells;
 mod closing;
+mod ensuring;
 mod fresh;
+mod growing;
 mod growth;
 mod moves;
 mod served;

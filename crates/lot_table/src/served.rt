@@ -29,7 +29,11 @@ impl Served {
     ghost use Rattle.lot_table.specs.declared.sizes.Grown.TheVariants.{Kept, Grew};
 
     /// The newest version is large enough, and the call has published none.
-    pub(crate) fn kept<R: Root>(_newest: &Newest<'_, R>, size: usize, _growing: Growing) -> Served
+    pub(crate) fn kept<R: Root, G: Drop>(
+        _newest: &Newest<'_, R>,
+        size: usize,
+        _growing: Growing<G>,
+    ) -> Served
         requires size { size ≡ _newest.now.version.now.size }
         requires grown { _growing.has_grown ≡ false }
         ensures { result ≡ Kept size }
@@ -40,13 +44,13 @@ impl Served {
     }
 
     /// The call has published a version in the cell after that of the newest, and moved all lines and roots there.
-    pub(crate) fn grew<R: Root>(
+    pub(crate) fn grew<R: Root, G: Drop>(
         _newest: &Newest<'_, R>,
         before: usize,
         _published: &Found<'_, R>,
         after: usize,
         _filled: Filled<R>,
-        _growing: Growing,
+        _growing: Growing<G>,
     ) -> Served
         requires before { before ≡ _newest.now.version.now.size }
         requires after { after ≡ _published.now.version.now.size }

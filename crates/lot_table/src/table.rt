@@ -1,21 +1,22 @@
-ghost use Rattle.std.specs.Prelude.{◌≡◌, ℕ, ◌+◌, ◌*◌, ◌<◌, ◌≤◌, ◌%◌, true, false, length, vec_len, vec_capacity, Some};
-ghost use Rattle.std.specs.Prelude.{IfOk, IfErr, MatchOption};
+ghost use Rattle.std.specs.Prelude.{◌≡◌, ℕ, ◌+◌, ◌*◌, ◌<◌, ◌≤◌, ◌%◌, length, vec_len, vec_capacity};
+ghost use Rattle.std.specs.Prelude.{IfOk, IfErr};
 ghost use Rattle.std.specs.Sync.Mutex.{mutex_guard_value};
 ghost use Rattle.lot_bucket.specs.Settled.{IsReadyFor, HasPlaceFor, Stays};
 ghost use Rattle.lot_table.specs.Roots.{AreIdle, Appends};
 ghost use Rattle.lot_table.specs.Sizes.{Serves, grown_size_of, first_size_of};
-ghost use Rattle.lot_table.specs.Buckets.{AreFresh, AreFilled, IsMove};
+ghost use Rattle.lot_table.specs.Buckets.{AreFresh, AreFilled};
 ghost use Rattle.lot_table.specs.declared.sizes.TheConstants.{MOST_THREADS, MOST_VERSIONS};
 
-use crate::cells::{Found, Growing};
 use crate::closing::Closing;
+use crate::ensuring::ensure_with;
 use crate::fresh::fresh_buckets;
+use crate::growing::Growth;
 use crate::growth::Grower;
 use crate::served::Served;
 use crate::sizes::{MOST_THREADS, MOST_VERSIONS, TableFault, first_size, grown_size};
 use crate::slot::Slot;
-use crate::version::{Filled, Version};
-use crate::versions::{Newest, Versions};
+use crate::version::Version;
+use crate::versions::Versions;
 use lot_bucket::{Bucket, Root, Settled};
 use std::alloc::Global;
 use std::marker::Model;
@@ -210,44 +211,8 @@ impl<R: Root> Table<R> {
         ensures { IfOk result (λ g. Serves threads g) }
     {
         prove!(self.threads <= MOST_THREADS);
-        let mut growing = Growing::new();
-        for _ in rt.forever() {
-            let newest = self.versions.newest();
-            let size = newest.version.size();
-            let grown = grown_size(size, threads);
-            if grown == size {
-                return Ok(Served::kept(&newest, size, growing));
-            }
-            if let Some((found, filled)) = self.grow_to(rt, &newest, grown, &mut growing)? {
-                return Ok(Served::grew(&newest, size, &found, grown, filled, growing));
-            }
-            thread::yield_now();
-        }
-        unreachable!()
-    }
-
-    // Lets the table grow from its newest version where that may be, and answers the version that it published.
-    fn grow_to<'a, W: Wait>(
-        &self,
-        rt: &W,
-        newest: &Newest<'a, R>,
-        size: usize,
-        growing: &mut Growing,
-    ) -> Result<Option<(Found<'a, R>, Filled<R>)>, TableFault>
-        requires size { 0 < size }
-        requires first { growing.old.has_grown ≡ false }
-        ensures published { IfOk result (λ r. MatchOption r (growing.new.has_grown ≡ false)
-            (λ f. (growing.new.has_grown ≡ true) × (f.0.version.now.size ≡ size)
-            × ((cell : _) × (newest.now.next ≡ Some cell) × (f.0.token.of ≡ cell.id))
-            × IsMove newest.now.version.now.size size f.1)) }
-        ensures refused { IfErr result (λ e. growing.new.has_grown ≡ false) }
-    {
-        let Some(next) = &newest.next else {
-            return Ok(None);
-        };
-        let version = newest.version;
-        self.grower
-            .grow(rt, version, next, size, self.keys, self.threads, growing)
+        let growth = Growth::new(&self.versions, &self.grower, self.keys, self.threads);
+        ensure_with(rt, &growth, threads, ())
     }
 
     /// Appends each key's root to `out`, in key order. It takes no memory.

@@ -1,5 +1,5 @@
 use Rattle.std.proofs.Common.{◌≡◌, false}
-use Rattle.lot_table.proofs.table.Table.ensure.Given as goal
+use Rattle.lot_table.proofs.ensuring.ensure_with.Given as goal
 
 abbrev pub invariant-loop : goal.invariant-loop
 invariant-loop g l = record { none : l.growing.has_grown ≡ false }
