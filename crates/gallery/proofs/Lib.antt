@@ -4,3 +4,4 @@ pub mod Leasing
 pub mod Counting
 pub mod Trying
 pub mod Numbers
+pub mod Doing
