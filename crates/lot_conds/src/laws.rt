@@ -3,7 +3,7 @@
 ghost use Rattle.std.specs.Prelude.{◌≡◌, ℕ, ◌<◌, List};
 ghost use Rattle.atomic_table.specs.Table.{State};
 ghost use Rattle.lot_core.specs.Model.{opening};
-ghost use Rattle.lot_core.specs.Parts.{CondPart, cond_part};
+ghost use Rattle.lot_core.specs.Parts.{CondPart, condition_part};
 ghost use Rattle.lot_core.specs.Sound.{IsSoundCondPart};
 ghost use Rattle.lot_events.specs.declared.events.Event.{Event};
 ghost use Rattle.lot_events.specs.declared.events.Event.TheVariants.{Enlist};
@@ -32,7 +32,7 @@ pub fn every_run_is_sound()
 
 /// The history begins at the condition part of the model's opening state.
 pub fn the_history_begins_at_the_opening()
-    ensures { (threads locks conds : ℕ) → opening_part ≡ cond_part (opening threads locks conds) }
+    ensures { (threads locks conds : ℕ) → opening_part ≡ condition_part (opening threads locks conds) }
 {}
 
 /// An Enlist is so with each lock: to the condition part it makes no difference which lock the thread has.

@@ -10,7 +10,7 @@ use Rattle.lot_events.specs.declared.events.Event.TheVariants.{SemMark, SemPark,
 use Rattle.lot_core.specs.Model.{StateView, Locks, Conds, Semaphores, put}
 use Rattle.lot_core.specs.Steps.{IsTrying, IsSeeking, MayLetGo, Allowed, after, seen, released, let_go, handed, none_left, permit_taken}
 use Rattle.lot_core.specs.Sound.{IsSound, Waits}
-use Rattle.lot_core.specs.Parts.{LockPart, CondPart, SemaphorePart, wanted, swept_by, sought, lock_part, cond_part, semaphore_part}
+use Rattle.lot_core.specs.Parts.{LockPart, CondPart, SemaphorePart, wanted, swept_by, sought, lock_part, condition_part, semaphore_part}
 use Rattle.lot_core.specs.Parts.{MayTry, LockAllowed, served, lock_part_after, lock_seen, IsCalmIn, CondAllowed, cond_part_after, cond_seen}
 use Rattle.lot_core.specs.Parts.{PartSeeks, SemaphoreAllowed, semaphore_part_after, semaphore_seen}
 use Rattle.lot_core.specs.Parts.{IsLockEvent, IsCondEvent, IsSemaphoreEvent, StandsBefore, AsksOfThread}
@@ -27,7 +27,7 @@ pub lock_part_by : (s : StateView) (locks : Locks) (point : ℕ → Point) (want
 lock_part_by s locks point wants e = ap (λ (w : ℕ → Option ℕ). let a : LockPart = record { locks = locks; wants = w } in a) e
 
 pub cond_part_by : (s : StateView) (conds : Conds) (point : ℕ → Point) (sweeps : ℕ → Option ℕ) → told swept_by point ≡ sweeps →
-    cond_part (record s { conds = conds; point = point }) ≡ record { conds = conds; sweeps = sweeps }
+    condition_part (record s { conds = conds; point = point }) ≡ record { conds = conds; sweeps = sweeps }
 cond_part_by s conds point sweeps e = ap (λ (w : ℕ → Option ℕ). let a : CondPart = record { conds = conds; sweeps = w } in a) e
 
 pub semaphore_part_by : (s : StateView) (sems : Semaphores) (point : ℕ → Point) (seeks : ℕ → Option ℕ) → told sought point ≡ seeks →
@@ -127,7 +127,7 @@ lock_part_follows s (Sweep t c) ok = lock_part_by s _ _ _ (told_same wanted s.po
 lock_part_follows s (SemTake t k) ok = lock_part_by s _ _ _ (sem_take_untold wanted refl (λ k. refl) s t k ok.2)
 lock_part_follows s _ ok = refl
 
-pub cond_part_follows : (s : StateView) (e : Event) → SleepersWant s → Allowed s e → cond_part (after s e) ≡ cond_part_after (cond_part s) e
+pub cond_part_follows : (s : StateView) (e : Event) → SleepersWant s → Allowed s e → condition_part (after s e) ≡ cond_part_after (condition_part s) e
 cond_part_follows s (Take t l) h ok = cond_part_by s _ _ _ (take_untold swept_by swept_blind s t l ok.2)
 cond_part_follows s (Free t l) h ok = cond_part_by s _ _ _ (free_untold swept_by (blind_released swept_by swept_blind) s t l)
 cond_part_follows s (Pass t l true more) h ok = cond_part_by s _ _ _ (handed_untold swept_by swept_blind s t l (s.locks.line l) h refl)
@@ -166,7 +166,7 @@ lock_seen_follows s (Free t l) is = refl
 lock_seen_follows s (Pass t l fair more) is = refl
 lock_seen_follows s _ is = absurd is
 
-pub cond_seen_follows : (s : StateView) (e : Event) → IsCondEvent e → seen s e ≡ cond_seen (cond_part s) e
+pub cond_seen_follows : (s : StateView) (e : Event) → IsCondEvent e → seen s e ≡ cond_seen (condition_part s) e
 cond_seen_follows s (Enlist t c l) is = refl
 cond_seen_follows s (Look t c) is = refl
 cond_seen_follows s (Call t c n more) is = refl
@@ -249,12 +249,12 @@ at_no_point c l p (inr rest) calm = let e : Rest c l ≡ Calm = sym rest ∙ cal
 
 -- who is calm in a sound state is so in the condition part
 calm_in : (s : StateView) (t : ℕ) → ((c u : ℕ) → Contains (s.conds.line c) u → Waits s.point c u) → s.point t ≡ Calm
-    → IsCalmIn (cond_part s) t
+    → IsCalmIn (condition_part s) t
 calm_in s t waits calm = (ap swept_by calm, (λ c h. at_no_point c (waits c t h).0 (s.point t) (waits c t h).1 calm))
 
 pub cond_allowed : (s : StateView) (e : Event) → ((c u : ℕ) → Contains (s.conds.line c) u → Waits s.point c u) → Allowed s e
     → IsCondEvent e →
-    CondAllowed s.threads s.lock_count s.cond_count (cond_part s) e
+    CondAllowed s.threads s.lock_count s.cond_count (condition_part s) e
 cond_allowed s (Enlist t c l) waits ok is = (ok.0, ok.1, ok.2, calm_in s t waits ok.3)
 cond_allowed s (Look t c) waits ok is = (ok.0, ok.1, calm_in s t waits ok.2)
 cond_allowed s (Call t c n more) waits ok is = (ok.0, ok.1, calm_in s t waits ok.2, ok.3, ok.4)
@@ -339,7 +339,7 @@ lock_allows s (Free t l) ok asks = (ok.0, ok.1, ok.2, asks)
 lock_allows s (Pass t l fair more) ok asks = (ok.0, ok.1, ok.2, ok.3, asks, ok.5)
 lock_allows s _ ok asks = absurd ok
 
-cond_allows : (s : StateView) (e : Event) → CondAllowed s.threads s.lock_count s.cond_count (cond_part s) e → AsksOfThread s e → Allowed s e
+cond_allows : (s : StateView) (e : Event) → CondAllowed s.threads s.lock_count s.cond_count (condition_part s) e → AsksOfThread s e → Allowed s e
 cond_allows s (Enlist t c l) ok asks = (ok.0, ok.1, ok.2, asks.0, asks.1)
 cond_allows s (Look t c) ok asks = (ok.0, ok.1, asks)
 cond_allows s (Call t c n more) ok asks = (ok.0, ok.1, asks, ok.3, ok.4)
@@ -376,7 +376,7 @@ cond_follows s e h ok =
     let follows = cond_part_follows s e (sleepers_want s h) ok in
     record {
       steps = λ is. (cond_allowed s e (sleepers_wait s h) ok is, cond_seen_follows s e is, follows);
-      stays = λ other. follows ∙ cond_part_stays (cond_part s) e other;
+      stays = λ other. follows ∙ cond_part_stays (condition_part s) e other;
     }
 
 pub semaphore_follows : (s : StateView) (e : Event) → IsSound s → Allowed s e → SemaphorePartFollows s e

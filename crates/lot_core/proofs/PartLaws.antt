@@ -7,7 +7,7 @@ use Rattle.lot_events.specs.declared.events.Event.TheVariants.{Try, Take, Mark, 
 use Rattle.lot_core.specs.Model.{StateView, opening_with}
 use Rattle.lot_core.specs.Steps.{Allowed, Run, after, after_all, IsReached}
 use Rattle.lot_core.specs.Sound.{IsSound, Waits, IsSoundLockPart, IsSoundCondPart, IsSoundSemaphorePart, ArePartsSound}
-use Rattle.lot_core.specs.Parts.{swept_by, lock_part, cond_part, semaphore_part, lock_part_after, lock_seen, LockPart, IsLockEvent}
+use Rattle.lot_core.specs.Parts.{swept_by, lock_part, condition_part, semaphore_part, lock_part_after, lock_seen, LockPart, IsLockEvent}
 use Rattle.lot_core.proofs.Permits.{part_sound}
 use Rattle.lot_core.proofs.LockParts.{lock_step_sound, lock_opening_sound}
 use Rattle.lot_core.proofs.Following.{lock_allowed, lock_part_follows}
@@ -24,7 +24,7 @@ waits_still : (point : ℕ → Point) (c t : ℕ) → Waits point c t → swept_
 waits_still point c t (l, inl bed) = ap swept_by bed
 waits_still point c t (l, inr rest) = ap swept_by rest
 
-cond_part_sound : (s : StateView) → IsSound s → IsSoundCondPart s.threads (cond_part s)
+cond_part_sound : (s : StateView) → IsSound s → IsSoundCondPart s.threads (condition_part s)
 cond_part_sound s h = record {
   someone_sweeps = λ c clear some. let w = h.someone_sweeps c clear some in (w.0, w.1, ap swept_by w.2);
   once = h.one_line_each.cond_once;
@@ -36,7 +36,7 @@ semaphore_part_sound : (s : StateView) → IsSound s → IsSoundSemaphorePart s.
 semaphore_part_sound s h = part_sound s.threads s.permits (semaphore_part s) (sems_sound s h)
 
 pub whole_parts_sound : (s : StateView) → IsSound s →
-    IsSoundCondPart s.threads (cond_part s) × IsSoundSemaphorePart s.threads s.permits (semaphore_part s)
+    IsSoundCondPart s.threads (condition_part s) × IsSoundSemaphorePart s.threads s.permits (semaphore_part s)
 whole_parts_sound s h = (cond_part_sound s h, semaphore_part_sound s h)
 
 -- an event of the whole keeps the lock part sound

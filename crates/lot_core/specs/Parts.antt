@@ -45,8 +45,8 @@ sought _ = None
 abbrev pub lock_part : StateView → LockPart
 lock_part s = record { locks = s.locks; wants = λ t. wanted (s.point t) }
 
-abbrev pub cond_part : StateView → CondPart
-cond_part s = record { conds = s.conds; sweeps = λ t. swept_by (s.point t) }
+abbrev pub condition_part : StateView → CondPart
+condition_part s = record { conds = s.conds; sweeps = λ t. swept_by (s.point t) }
 
 abbrev pub semaphore_part : StateView → SemaphorePart
 semaphore_part s = record { sems = s.sems; seeks = λ t. sought (s.point t) }
@@ -264,7 +264,7 @@ LockPartAllows s e =
 abbrev pub CondPartAllows : StateView → Event → Type 0
 CondPartAllows s e =
     IsCondEvent e →
-    Allowed s e ↔ (CondAllowed s.threads s.lock_count s.cond_count (cond_part s) e × AsksOfThread s e)
+    Allowed s e ↔ (CondAllowed s.threads s.lock_count s.cond_count (condition_part s) e × AsksOfThread s e)
 
 abbrev pub SemaphorePartAllows : StateView → Event → Type 0
 SemaphorePartAllows s e =
@@ -284,8 +284,8 @@ pub record LockPartFollows (s : StateView) (e : Event) : Type 0 where
 pub record CondPartFollows (s : StateView) (e : Event) : Type 0 where
   pub steps :
       IsCondEvent e →
-      CondStep s.threads s.lock_count s.cond_count (cond_part s) e (seen s e) (cond_part (after s e))
-  pub stays : (IsCondEvent e → ⊥) → cond_part (after s e) ≡ cond_part s
+      CondStep s.threads s.lock_count s.cond_count (condition_part s) e (seen s e) (condition_part (after s e))
+  pub stays : (IsCondEvent e → ⊥) → condition_part (after s e) ≡ condition_part s
 
 -- and of the semaphore part
 pub record SemaphorePartFollows (s : StateView) (e : Event) : Type 0 where

@@ -7,7 +7,7 @@ use Rattle.lot_events.specs.declared.events.Point.TheVariants.{Wants, Bed, Rest,
 use Rattle.lot_core.specs.Sums.{total, count_below}
 use Rattle.lot_core.specs.Model.{StateView, Semaphores}
 use Rattle.lot_core.specs.Steps.{IsThread, IsTrying}
-use Rattle.lot_core.specs.Parts.{LockPart, lock_part, CondPart, cond_part, SemaphorePart, semaphore_part, PartWants}
+use Rattle.lot_core.specs.Parts.{LockPart, lock_part, CondPart, condition_part, SemaphorePart, semaphore_part, PartWants}
 
 -- each thread but once
 abbrev pub IsOnce : List ℕ → Type 0
@@ -106,7 +106,7 @@ pub record IsSoundSemaphorePart (threads : ℕ) (permits : ℕ → ℕ) (a : Sem
 -- all three parts of a state
 pub record ArePartsSound (s : StateView) : Type 0 where
   pub locks : IsSoundLockPart s.threads (lock_part s)
-  pub conds : IsSoundCondPart s.threads (cond_part s)
+  pub conds : IsSoundCondPart s.threads (condition_part s)
   pub sems : IsSoundSemaphorePart s.threads s.permits (semaphore_part s)
 
 -- The same, key by key.

@@ -7,7 +7,7 @@ ghost use Rattle.lot_core.specs.Model.{StateView, opening_with};
 ghost use Rattle.lot_core.specs.Steps.{Allowed, Run, after, after_all, IsReached};
 ghost use Rattle.lot_core.specs.Sound.{IsSound, IsSoundLockPart, IsSoundCondPart, IsSoundSemaphorePart, ArePartsSound};
 ghost use Rattle.lot_core.specs.Script.{Spells, SpellsScript, IsFirstBad};
-ghost use Rattle.lot_core.specs.Parts.{LockPart, LockStep, CondPart, cond_part, CondStep, SemaphorePart};
+ghost use Rattle.lot_core.specs.Parts.{LockPart, LockStep, CondPart, condition_part, CondStep, SemaphorePart};
 ghost use Rattle.lot_core.specs.Parts.{semaphore_part, SemaphoreStep};
 ghost use Rattle.lot_core.specs.Parts.{LockPartAllows, CondPartAllows, SemaphorePartAllows};
 ghost use Rattle.lot_core.specs.Parts.{LockPartFollows, CondPartFollows, SemaphorePartFollows};
@@ -41,7 +41,7 @@ pub fn every_event_keeps_soundness()
 /// no condition's line.
 pub fn parts_follow()
     ensures lock_part { (s : StateView) (e : Event) → Allowed s e → LockPartFollows s e }
-    ensures cond_part { (s : StateView) (e : Event) → IsSound s → Allowed s e → CondPartFollows s e }
+    ensures condition_part { (s : StateView) (e : Event) → IsSound s → Allowed s e → CondPartFollows s e }
     ensures semaphore_part { (s : StateView) (e : Event) → IsSound s → Allowed s e → SemaphorePartFollows s e }
     ensures lock_allowed { (s : StateView) (e : Event) → LockPartAllows s e }
     ensures cond_allowed { (s : StateView) (e : Event) → IsSound s → CondPartAllows s e }
@@ -59,14 +59,14 @@ pub fn every_step_keeps_its_part_sound()
         → ArePartsSound (opening_with threads locks conds permits) }
     ensures lock_part { (threads locks : ℕ) (a b : LockPart) (e : Event) (saw : Seen) →
         LockStep threads locks a e saw b → IsSoundLockPart threads a → IsSoundLockPart threads b }
-    ensures cond_part { (threads locks conds : ℕ) (a b : CondPart) (e : Event) (saw : Seen) →
+    ensures condition_part { (threads locks conds : ℕ) (a b : CondPart) (e : Event) (saw : Seen) →
         CondStep threads locks conds a e saw b → IsSoundCondPart threads a → IsSoundCondPart threads b }
     ensures semaphore_part { (threads first_sem sems : ℕ) (permits : ℕ → ℕ) (a b : SemaphorePart)
         (e : Event) (saw : Seen) →
         SemaphoreStep threads first_sem sems a e saw b →
         IsSoundSemaphorePart threads permits a → IsSoundSemaphorePart threads permits b }
     ensures whole { (s : StateView) → IsSound s →
-        IsSoundCondPart s.threads (cond_part s) × IsSoundSemaphorePart s.threads s.permits (semaphore_part s) }
+        IsSoundCondPart s.threads (condition_part s) × IsSoundSemaphorePart s.threads s.permits (semaphore_part s) }
     ensures reached { (s : StateView) → IsReached s → ArePartsSound s }
 {}
 

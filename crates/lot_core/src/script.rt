@@ -55,8 +55,8 @@ ghost use Rattle.lot_core.specs.Script.{Reads, BeginsWith, NoEvent};
 ghost use Rattle.lot_core.specs.Reading.{field_at, ReadsNumbers, SpellsFront, AreGoodLines, IsBadLine};
 ghost use Rattle.lot_events.specs.declared.events.Event.{Event};
 
-// What stands behind the numbers at the front, each of them behind a space.
-fn behind_numbers(text: &[u8]) -> &[u8]
+/// What stands behind the numbers at the front, each of them behind a space. No memory is wanted.
+pub fn behind_numbers(text: &[u8]) -> &[u8]
     ensures read { (numbers : List ℕ) × ReadsNumbers text.now numbers result.now }
     ensures all { field_at result.now ≡ None }
 {

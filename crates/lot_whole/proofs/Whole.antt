@@ -6,7 +6,7 @@ use Rattle.std.specs.List.{Contains}
 use Rattle.lot_core.specs.Model.{StateView, put}
 use Rattle.lot_core.specs.Steps.{Allowed, after, seen, released, let_go, handed, none_left, IsReached}
 use Rattle.lot_core.specs.Rows.{told}
-use Rattle.lot_core.specs.Parts.{AsksOfThread, LockAllowed, CondAllowed, SemaphoreAllowed, lock_part, cond_part, semaphore_part}
+use Rattle.lot_core.specs.Parts.{AsksOfThread, LockAllowed, CondAllowed, SemaphoreAllowed, lock_part, condition_part, semaphore_part}
 use Rattle.lot_core.specs.Sound.{IsSound}
 use Rattle.lot_core.proofs.Law.{reached_sound}
 use Rattle.lot_core.proofs.Following.{SleepersWant, lock_follows, cond_follows, semaphore_follows, lock_part_allows, cond_part_allows}
@@ -99,8 +99,8 @@ module _ {V Part : Type 0} (rule : CallersRule V Part) (z : LotSize) (xs : List 
         let follows = (lock_follows s e ok).steps is in
         record { allowed = ok; saw_is = step.1 ∙ sym follows.1; part = follows.2 ∙ sym step.2; others = others lock is ok }
     joins cond b is step =
-        let here : CondAllowed s.threads s.lock_count s.cond_count (cond_part s) e =
-        subst (λ (c : HowMany). CondAllowed c.threads c.locks c.conds (cond_part s) e) (sym counts) step.0 in
+        let here : CondAllowed s.threads s.lock_count s.cond_count (condition_part s) e =
+        subst (λ (c : HowMany). CondAllowed c.threads c.locks c.conds (condition_part s) e) (sym counts) step.0 in
         let ok : Allowed s e = (cond_part_allows s e sound is).1 (here, asks) in
         let follows = (cond_follows s e sound ok).steps is in
         record { allowed = ok; saw_is = step.1 ∙ sym follows.1; part = follows.2 ∙ sym step.2; others = others cond is ok }

@@ -3,7 +3,7 @@
 use Rattle.std.specs.Prelude.{ℕ, ◌+◌, Bool, List, [], length, Option, is_some}
 use mathlib.Core.Option as maybe
 use Rattle.lot_core.specs.Model.{StateView}
-use Rattle.lot_core.specs.Parts.{lock_part, cond_part, semaphore_part, IsLockEvent, IsCondEvent, IsSemaphoreEvent}
+use Rattle.lot_core.specs.Parts.{lock_part, condition_part, semaphore_part, IsLockEvent, IsCondEvent, IsSemaphoreEvent}
 use Rattle.lot_events.specs.declared.events.Event.{Event}
 use Rattle.lot_rights.specs.Rule.{Meaning}
 use Rattle.lot_rights.specs.World.{Sizes, IsKeyOf}
@@ -96,7 +96,7 @@ module _ {V Part : Type 0} (rule : CallersRule V Part) (z : LotSize) (xs : List 
   -- the part of the model's state that its words tell of
   abbrev pub part_in : (j : Which) → StateView → (meaning_of j).Part
   part_in lock s = lock_part s
-  part_in cond s = cond_part s
+  part_in cond s = condition_part s
   part_in sem s = semaphore_part s
 
 -- the event is one of the kind

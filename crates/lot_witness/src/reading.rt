@@ -3,7 +3,6 @@ ghost use Rattle.std.specs.Prelude.{◌≡◌, ◌≢◌, ℕ, ◌<◌, ◌+◌,
 ghost use Rattle.lot_events.specs.declared.events.Event.{Event};
 ghost use Rattle.lot_events.specs.declared.events.Seen.{Seen};
 ghost use Rattle.lot_events.specs.Spelling.{field, Spells};
-ghost use Rattle.lot_core.specs.Reading.{field_at, ReadsNumbers};
 ghost use Rattle.lot_witness.specs.declared.witness.Sighting.{Sighting};
 ghost use Rattle.lot_witness.specs.Spelling.{IsSightOf, TellsTruth, TellsNothing, TellsSleeper, TellsNumber, told};
 ghost use Rattle.lot_witness.specs.Spelling.{SpellsSighting, BeginsWith, NoSighting};
@@ -152,16 +151,4 @@ pub(crate) fn first_sighting(text: &str) -> Option<(Sighting, &str)>
         return None;
     };
     Some((sighting, rest))
-}
-
-/// What stands behind the numbers at the front, each of them behind a space.
-pub(crate) fn behind_numbers(text: &[u8]) -> &[u8]
-    ensures read { (numbers : List ℕ) × ReadsNumbers text.now numbers result.now }
-    ensures all { field_at result.now ≡ None }
-{
-    let mut rest = text;
-    while let Some((_, behind)) = field(rest) {
-        rest = behind;
-    }
-    rest
 }

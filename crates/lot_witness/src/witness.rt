@@ -3,8 +3,8 @@ ghost use Rattle.std.specs.Prelude.{ℕ, List, IfOk, IfErr, IfSome, IfNone};
 ghost use Rattle.lot_witness.specs.declared.witness.Sighting.{Sighting};
 ghost use Rattle.lot_witness.specs.Spelling.{Reads, BeginsWith, BeginsWithAll, NoSighting, AreGood, IsBadLine};
 
-use crate::reading::{behind_numbers, first_sighting};
-use lot_core::script::numbers;
+use crate::reading::first_sighting;
+use lot_core::script::{behind_numbers, numbers};
 use lot_core::{MAX_LINES, ScriptFault};
 use lot_events::reading::{end, opening};
 use lot_events::{Event, Seen};

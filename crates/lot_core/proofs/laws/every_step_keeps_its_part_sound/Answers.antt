@@ -8,7 +8,7 @@ pub returns : goal.returns
 returns c = record {
   opening = opening_parts;
   lock_part = lock_step_sound;
-  cond_part = cond_step_sound;
+  condition_part = cond_step_sound;
   semaphore_part = semaphore_step_sound;
   whole = whole_parts_sound;
   reached = reached_parts;

@@ -5,7 +5,7 @@ use Rattle.lot_core.proofs.laws.parts_follow.Goals as goal
 pub returns : goal.returns
 returns c = record {
   lock_part = lock_follows;
-  cond_part = cond_follows;
+  condition_part = cond_follows;
   semaphore_part = semaphore_follows;
   lock_allowed = lock_part_allows;
   cond_allowed = cond_part_allows;
