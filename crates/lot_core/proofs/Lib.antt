@@ -10,6 +10,7 @@ pub mod LockParts
 pub mod CondParts
 pub mod Following
 pub mod Law
+pub mod WellFormed
 pub mod PartLaws
 pub mod LineRows
 pub mod SemaphoreRows

@@ -4,6 +4,7 @@ pub mod Model
 pub mod Steps
 pub mod Parts
 pub mod Sound
+pub mod WellFormed
 pub mod Lines
 pub mod Semaphores
 pub mod Limits

@@ -6,6 +6,7 @@ ghost use Rattle.lot_events.specs.declared.events.Seen.{Seen};
 ghost use Rattle.lot_core.specs.Model.{StateView, opening_with};
 ghost use Rattle.lot_core.specs.Steps.{Allowed, Run, after, after_all, IsReached};
 ghost use Rattle.lot_core.specs.Sound.{IsSound, IsSoundLockPart, IsSoundCondPart, IsSoundSemaphorePart, ArePartsSound};
+ghost use Rattle.lot_core.specs.WellFormed.{IsWellFormed};
 ghost use Rattle.lot_core.specs.Script.{Spells, SpellsScript, IsFirstBad};
 ghost use Rattle.lot_core.specs.Parts.{LockPart, LockStep, CondPart, condition_part, CondStep, SemaphorePart};
 ghost use Rattle.lot_core.specs.Parts.{semaphore_part, SemaphoreStep};
@@ -29,6 +30,15 @@ pub fn every_event_keeps_soundness()
     ensures event { (s : StateView) (e : Event) → IsSound s → Allowed s e → IsSound (after s e) }
     ensures reached { (s : StateView) → IsReached s → IsSound s }
     ensures further { (s : StateView) (e : Event) → IsReached s → Allowed s e → IsReached (after s e) }
+{}
+
+/// Every state that a run reaches names only its own threads, locks, conditions and semaphores: so does each opening,
+/// and an event that is allowed in such a state, where that is sound, leaves such a state behind.
+pub fn every_run_stays_well_formed()
+    ensures opening { (threads locks conds : ℕ) (permits : List ℕ)
+        → IsWellFormed (opening_with threads locks conds permits) }
+    ensures event { (s : StateView) (e : Event) → IsSound s → IsWellFormed s → Allowed s e → IsWellFormed (after s e) }
+    ensures reached { (s : StateView) → IsReached s → IsWellFormed s }
 {}
 
 /// An event of the whole is a step of the part that it belongs to, with the same answer, and leaves

@@ -37,7 +37,7 @@
 //!
 //! The events themselves, and how a line spells one, are `lot_events`.
 //!
-//! Read `specs/` in this order: Model, Steps, Parts, Sound, then Limits and State for the calls, Script, Reading and
+//! Read `specs/` in this order: Model, Steps, Parts, Sound, WellFormed, then Limits and State for the calls, Script, Reading and
 //! Printed for the texts; the lines of Script are those of `specs/Spelling` of `lot_events`. Rows, Sums, Lines and
 //! Semaphores are parts of these.
 #![tactic(auto)]
@@ -51,8 +51,8 @@ mod sound;
 pub mod state;
 
 pub use laws::{
-    every_event_keeps_soundness, every_run_is_sound, every_step_keeps_its_part_sound, parts_follow,
-    spelled_scripts_are_read,
+    every_event_keeps_soundness, every_run_is_sound, every_run_stays_well_formed,
+    every_step_keeps_its_part_sound, parts_follow, spelled_scripts_are_read,
 };
 pub use lot_events::{Event, Point, Seen};
 pub use printing::print_state;

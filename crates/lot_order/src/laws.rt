@@ -5,8 +5,9 @@ ghost use Rattle.lot_events.specs.declared.events.Point.TheVariants.{Rest};
 ghost use Rattle.lot_core.specs.Model.{StateView, opening_with};
 ghost use Rattle.lot_core.specs.Steps.{Allowed, Run, after, after_all};
 ghost use Rattle.lot_core.specs.Sound.{IsSound};
+ghost use Rattle.lot_core.specs.WellFormed.{IsWellFormed};
 ghost use Rattle.lot_order.specs.Order.{KeepsOrder, IsOrdered, OrderlyRun, Rises};
-ghost use Rattle.lot_order.specs.Waiting.{Needs, GoesOn, SeeksInVain, HasNoCircle, SomeoneGoesOn};
+ghost use Rattle.lot_order.specs.Waiting.{GoesOn, SeeksInVain, HasNoCircle, AllComeTo, SomeoneGoesOn};
 
 /// Stands for an order of keys: an `impl` says which keys lie above which, as
 /// `ghost above = { λ j k. j < k };`.
@@ -15,18 +16,18 @@ pub trait KeyOrder {
     ghost above: { ℕ → ℕ → Type 0 };
 }
 
-/// In a state that is in order no thread waits for itself, whatever others lie between. While some thread needs a key,
-/// some thread goes on; or one that has a needed key waits to be notified, or one seeks a permit of a semaphore that
-/// was opened with none. Where whoever waits for a notification keeps nothing, since no key may be kept with it, one of
-/// the other two holds.
+/// In a state that is in order no thread waits for itself, whatever others lie between. From each key that a thread
+/// needs one comes, from who has it to what that one needs, to a key with which some thread goes on; or to one that a
+/// thread has which waits to be notified, or a permit of a semaphore that was opened with none. Where whoever waits for
+/// a notification keeps nothing, since no key may be kept with it, one comes to one of the other two.
 pub fn ordered_states_go_on<O: KeyOrder>()
     ensures no_circle { (level : ℕ → ℕ) (s : StateView) → Rises O.above level → IsOrdered O.above s
         → HasNoCircle s }
-    ensures goes_on { (level : ℕ → ℕ) (s : StateView) → Rises O.above level → IsSound s
+    ensures goes_on { (level : ℕ → ℕ) (s : StateView) → Rises O.above level → IsSound s → IsWellFormed s
         → IsOrdered O.above s → SomeoneGoesOn O.above s }
-    ensures nothing_kept { (level : ℕ → ℕ) (s : StateView) → Rises O.above level → IsSound s
+    ensures nothing_kept { (level : ℕ → ℕ) (s : StateView) → Rises O.above level → IsSound s → IsWellFormed s
         → IsOrdered O.above s → ((t c l j : ℕ) → s.point t ≡ Rest c l → ¬ O.above j c)
-        → (t k : ℕ) → Needs s t k → GoesOn s ⊎ SeeksInVain s }
+        → AllComeTo s (λ u k. GoesOn s u k ⊎ SeeksInVain s u k) }
 {}
 
 /// An event that keeps the order leaves a state in order behind, and each opening is in order: so is each state of an

@@ -3,7 +3,7 @@
 //! `above` says of two keys whether who has the first may wait for the second. Whoever is to wait for a lock, for a
 //! permit, or for a notification (beside the lock that it waits with) has only keys with which it may (`KeepsOrder`).
 //! Where `above` rises by some level, no chain of threads, of which each needs what the next has, leads back to its
-//! start, and while some thread needs a key some thread goes on, but for two cases (`SomeoneGoesOn`). It stands on
+//! start, and each ends with a thread that goes on, but for two cases (`SomeoneGoesOn`). It stands on
 //! `lot_core`.
 //!
 //! Read `specs/Order`, then `specs/Waiting`. Lock levels are those of Chalice (Leino, Müller, Smans, ESOP 2010); what

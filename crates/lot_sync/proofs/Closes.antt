@@ -20,6 +20,7 @@ use Rattle.lot_whole.specs.declared.views.LotRootView.{LotRootView}
 use Rattle.lot_whole.specs.Family.{cond}
 use Rattle.lot_whole.specs.Order.{accesses_of, queued_in}
 use Rattle.lot_whole.specs.Lot.{line_of_root, owed_by}
+use Rattle.lot_whole.specs.Standing.{IsIdle}
 use Rattle.lot_scheme.specs.Roots.{root_view, owes_in}
 use Rattle.lot_scheme.specs.Counts.{queued_now}
 use Rattle.lot_scheme.specs.Standing.{LotStanding, standing}
@@ -50,6 +51,7 @@ module _ {V : Type 0} where
           ∙ ap pass_view_of is)) (held_owned q.own.locks.holds l holds))),
       nobody_out q.own.conds.out (subst (λ (x : LotStanding V). is_some x.own.conds.out ≡ false) is (rest.idle.0.up cond)),
     );
+    idle = subst (λ (x : LotStanding V). IsIdle x.own) is rest.idle;
   }
 
   -- what the passes counted, as they show it and as they are seen

@@ -6,7 +6,7 @@ use Rattle.lot_rights.specs.Shown.{PassShown, RootShown}
 use Rattle.lot_whole.specs.declared.views.LotPassView.{LotPassView}
 use Rattle.lot_whole.specs.declared.views.LotRootView.{LotRootView}
 use Rattle.lot_whole.specs.Order.{accesses_of}
-use Rattle.lot_whole.specs.Closing.{IsToldTo}
+use Rattle.lot_whole.specs.Closing.{IsToldTo, IsQuiet}
 use Rattle.lot_scheme.specs.Roots.{size_named}
 use Rattle.lot_scheme.specs.Counts.{CountedWith, CountsOf}
 use Rattle.lot_sync.specs.Lot.{PassView, LotNames}
@@ -14,12 +14,13 @@ use Rattle.lot_sync.specs.Passes.{pass_view_shown}
 
 -- One history was made with these passes, and what was made with each pass is its thread's part of it. Without its
 -- notices it is one run of the whole model, from the opening of this name to a sound state, in which the permits that
--- are left and those that are out are all that there were
+-- are left and those that are out are all that there were, no lock is held and nobody waits
 pub record HasOneRun {V : Type 0} (names : LotNames V) (passes : List (PassView V)) : Type 0 where
   pub rights : List (PassShown (LotPassView V))
   pub roots : List (RootShown LotRootView)
   pub are : map pass_view_shown rights ≡ passes
   pub told : IsToldTo (size_named names.threads names.locks names.conds names.permits) rights roots
+  pub quiet : IsQuiet told.recounted.part
   pub made : All (λ (p : PassView V). p.made ≡ accesses_of (2 * p.thread) told.recounted.log) passes
 
 -- ---- what was counted of the keys

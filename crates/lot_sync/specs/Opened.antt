@@ -31,6 +31,11 @@ opened_as words = record {
   values = words.values;
 }
 
+-- the opening was with these numbers, with a lock for each value and a semaphore for each number of permits
+abbrev pub IsOpenedWith : {V : Type 0} → LotNames V → ℕ → List V → ℕ → List ℕ → Type 0
+IsOpenedWith o threads values conds permits = (o.threads ≡ threads) × (o.values ≡ values) × (o.conds ≡ conds)
+    × (o.first_sem ≡ length values + conds) × (o.permits ≡ permits) × (o.locks ≡ length values)
+
 -- the name is that of this opening
 abbrev pub IsNamed : {V : Type 0} → LotNames V → LotNames V → Type 0
 IsNamed names opened = names ≡ opened

@@ -67,10 +67,11 @@ module _ {V : Type 0} where
     pub lies : IsIn r.own.locks key value
     pub out : (l : ℕ) → l ≢ key → Holds r.own.locks l → IsOut r.own.locks l
 
-  -- a pass of this table that holds no lock, and is out on no condition
+  -- a pass of this table that holds no lock, is out on no condition, and stands idle
   pub record IsFree (table : TableId) (p : PassShown (LotPassView V)) : Type 0 where
     pub is_of : p.table ≡ table
     pub done : HasDone p
+    pub idle : IsIdle p.own
 
 -- what each pass of a lot of this name is: of one of its threads, with a number or a value for each key, and gone on
 -- from the opening values

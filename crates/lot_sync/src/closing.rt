@@ -22,7 +22,7 @@ use std::sync::Wait;
 impl<V: Keeps + Send, N: LotName<V> + Send, C: Tally + Send> Lot<V, N, C> {
     /// Ends the lot, with all its passes. The answer has the value of each lock, in order, as some pass saw it last,
     /// and what the passes counted for each condition. One run of the whole model was made with these passes, from the
-    /// opening to a sound state.
+    /// opening to a sound state in which no lock is held and nobody waits.
     ///
     /// Passes that are in are had by `take_left`.
     pub fn close<R: Wait>(self, rt: &R, passes: Vec<Pass<V, N>>) -> (Vec<V>, Ledger)

@@ -26,7 +26,7 @@ fn are_many_keys(locks: usize, conds: usize, sems: usize) -> bool
 }
 
 impl<V: Keeps + Send, N: LotName<V> + Send> Lot<V, N> {
-    ghost use Rattle.lot_sync.specs.Opened.{KeepAll, IsThreadCount, AreManyKeys, Refuses};
+    ghost use Rattle.lot_sync.specs.Opened.{KeepAll, IsThreadCount, AreManyKeys, IsOpenedWith, Refuses};
 
     /// `open_with` for a lot of many keys: up to [`MOST_KEYS`](lot_rights::MOST_KEYS) locks, conditions and semaphores
     /// together, and up to [`MOST_CONDS`] conditions among them; more of either are `BadKeys`. A lot of more than
@@ -46,8 +46,7 @@ impl<V: Keeps + Send, N: LotName<V> + Send> Lot<V, N> {
         permits: &[u32],
     ) -> Result<Opened<V>, (OpenFault, Vec<V>)>
         requires { KeepAll V.keeps values.items }
-        ensures opened { IfOk result (λ o. (o.threads ≡ threads) × (o.values ≡ values.items) × (o.conds ≡ conds)
-            × (o.first_sem ≡ vec_len values + conds) × (o.permits ≡ permits.now)) }
+        ensures opened { IfOk result (λ o. IsOpenedWith o threads values.items conds permits.now) }
         ensures limits { IfOk result (λ _. IsThreadCount threads
             × AreManyKeys (vec_len values) conds (length permits.now)) }
         ensures fault { IfErr result

@@ -1,7 +1,7 @@
 //! Opening a lot: first its table, then, under a name, the lot itself.
 ghost use Rattle.std.specs.Prelude.{◌≡◌, ◌↔◌, ◌+◌, ◌<◌, ◌≤◌, [], length, vec_len, IfOk, IfErr, IsTrue};
 ghost use Rattle.lot_rights.specs.declared.layout.TheConstants.{MOST_KEYS};
-ghost use Rattle.lot_sync.specs.Opened.{KeepAll, IsThreadCount, IsKeyCount};
+ghost use Rattle.lot_sync.specs.Opened.{KeepAll, IsThreadCount, IsKeyCount, IsOpenedWith};
 
 use crate::fault::OpenFault;
 use crate::lot::Lot;
@@ -50,7 +50,7 @@ fn is_key_count(locks: usize, conds: usize, sems: usize) -> bool
 }
 
 impl<V: Keeps + Send, N: LotName<V> + Send> Lot<V, N> {
-    ghost use Rattle.lot_sync.specs.Opened.{KeepAll, IsThreadCount, IsKeyCount, Refuses};
+    ghost use Rattle.lot_sync.specs.Opened.{KeepAll, IsThreadCount, IsKeyCount, IsOpenedWith, Refuses};
 
     /// Opens the words of a lot for so many threads, with a lock for each value, and so many conditions, whose numbers
     /// follow the locks'. It is `open_with` without semaphores.
@@ -61,8 +61,7 @@ impl<V: Keeps + Send, N: LotName<V> + Send> Lot<V, N> {
         conds: usize,
     ) -> Result<Opened<V>, (OpenFault, Vec<V>)>
         requires { KeepAll V.keeps values.items }
-        ensures opened { IfOk result (λ o. (o.threads ≡ threads) × (o.values ≡ values.items) × (o.conds ≡ conds)
-            × (o.first_sem ≡ vec_len values + conds) × (o.permits ≡ [])) }
+        ensures opened { IfOk result (λ o. IsOpenedWith o threads values.items conds []) }
         ensures limits { IfOk result (λ _. IsThreadCount threads × IsKeyCount (vec_len values) conds 0) }
         ensures fault { IfErr result (λ e. Refuses (IsKeyCount (vec_len values) conds 0) threads e.0) }
         ensures back { IfErr result (λ e. e.1.items ≡ values.items) }
@@ -83,8 +82,7 @@ impl<V: Keeps + Send, N: LotName<V> + Send> Lot<V, N> {
         permits: &[u32],
     ) -> Result<Opened<V>, (OpenFault, Vec<V>)>
         requires { KeepAll V.keeps values.items }
-        ensures opened { IfOk result (λ o. (o.threads ≡ threads) × (o.values ≡ values.items) × (o.conds ≡ conds)
-            × (o.first_sem ≡ vec_len values + conds) × (o.permits ≡ permits.now)) }
+        ensures opened { IfOk result (λ o. IsOpenedWith o threads values.items conds permits.now) }
         ensures limits { IfOk result (λ _. IsThreadCount threads
             × IsKeyCount (vec_len values) conds (length permits.now)) }
         ensures fault { IfErr result
@@ -112,8 +110,7 @@ pub(crate) fn open_words<V: Keeps + Send>(
     requires threads { IsThreadCount threads }
     requires keys { (0 < vec_len values) × (vec_len values + conds + length permits.now ≤ MOST_KEYS) }
     requires keep { KeepAll V.keeps values.items }
-    ensures opened { IfOk result (λ o. (o.threads ≡ threads) × (o.values ≡ values.items) × (o.conds ≡ conds)
-        × (o.first_sem ≡ vec_len values + conds) × (o.permits ≡ permits.now)) }
+    ensures opened { IfOk result (λ o. IsOpenedWith o threads values.items conds permits.now) }
     ensures fault { IfErr result (λ e. e.0 ≡ OpenFault.NoMemory) }
     ensures back { IfErr result (λ e. e.1.items ≡ values.items) }
 {

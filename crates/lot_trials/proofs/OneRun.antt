@@ -14,6 +14,7 @@ use Rattle.lot_locks.specs.declared.released.Released.{Released}
 use Rattle.lot_locks.specs.Released.{FreeTrace}
 use Rattle.lot_sync.specs.Lot.{PassView, LotNames}
 use Rattle.lot_sync.specs.Traces.{Adds}
+use Rattle.lot_whole.specs.Closing.{IsQuiet}
 use Rattle.lot_whole.specs.Order.{accesses_of}
 use Rattle.lot_sync.specs.Closing.{HasOneRun}
 use Rattle.lot_trials.proofs.Splits.{is_in_log, any_in_log}
@@ -58,6 +59,7 @@ module _ {V : Type 0} where
         record {
           run = has.told.run.run;
           sound = subst IsSound has.told.run.end has.told.run.sound;
+          quiet = subst IsQuiet has.told.run.end has.quiet;
           let_go = λ t near.
               let one =
               any_all (λ (p : PassView V). p.thread ≡ t) Both passes (all t near) (λ k d at. (released k d at, has.made k d at)) in

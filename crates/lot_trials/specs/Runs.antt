@@ -10,6 +10,7 @@ use Rattle.lot_events.specs.declared.events.Seen.{Seen}
 use Rattle.lot_events.specs.declared.events.Seen.TheVariants.{Bool as Saw, Sleeper}
 use Rattle.lot_rights.specs.declared.views.Access.{Access}
 use Rattle.lot_rights.specs.declared.views.Access.TheVariants.{Makes}
+use Rattle.lot_whole.specs.Closing.{IsQuiet}
 use Rattle.lot_sync.specs.Lot.{PassView, LotNames, OwnsNone}
 
 -- the thread let a lock go by this event: nobody was parked, or the lock was passed on
@@ -45,10 +46,11 @@ abbrev pub events_of : List (Event × Seen) → List Event
 events_of events = map (λ (x : Event × Seen). x.0) events
 
 -- These events were made with the lot of this name: they are a run of the model from its opening, to a state that is
--- sound, and in them each of its threads let a lock go
+-- sound and in which nobody has a lock or waits, and in them each of its threads let a lock go
 pub record IsWholeRun {V : Type 0} (names : LotNames V) (events : List (Event × Seen)) : Type 0 where
   pub run : Run (opening_with names.threads names.locks names.conds names.permits) (events_of events)
   pub sound : IsSound (after_all (opening_with names.threads names.locks names.conds names.permits) (events_of events))
+  pub quiet : IsQuiet (after_all (opening_with names.threads names.locks names.conds names.permits) (events_of events))
   pub let_go : (t : ℕ) → t < names.threads → HasLetGo events t
 
 abbrev pub HasWholeRun : {V : Type 0} → LotNames V → Type 0

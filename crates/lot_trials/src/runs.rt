@@ -35,7 +35,7 @@ fn turn<N: LotName<Number> + Send + Sync, T: Wait>(
 }
 
 /// Two threads have a turn each, and the lot is closed: all that was done with it is one run of the model, from its
-/// opening to a sound state, in which each thread let a lock go.
+/// opening to a sound state in which nobody has a lock or waits, and each thread let a lock go.
 fn turn_and_close<N: LotName<Number> + Send + Sync, T: Threads + Wait + Sync + Abort>(
     rt: &T,
     lot: Lot<Number, N>,

@@ -1,13 +1,18 @@
 -- What a closing tells, when all passes came back, none of them holds a lock, and none waits on a condition.
 use Rattle.std.proofs.Common.{◌≡◌, ℕ, ◌+◌, ◌*◌, ◌<◌, ◌≤◌, ◌==◌, cond as if_so, List, [], ◌∷◌, ◌++◌, length, map, refl, sym, ap}
-use Rattle.std.proofs.Common.{subst, ◌∙◌, arith, Option, Some, slice_get, get_or, sum_by}
+use Rattle.std.proofs.Common.{true, inl, inr, subst, ◌∙◌, arith, Option, Some, slice_get, get_or, sum_by}
 use Rattle.std.specs.List.{All, Any}
+use Rattle.std.proofs.lemmas.Bool.{cases_lt}
 use Rattle.std.proofs.lemmas.List.{length-map, get_or-map}
 use Rattle.std.proofs.lemmas.List.Elements.{All-weaker, All-map, All-nil}
 use Rattle.std.proofs.lemmas.List.Sums.{sum_by-cons}
 use mathlib.Core.Option.{some, some-ne-none}
 use lib.ListN.{get_elem?}
+use Rattle.lot_events.specs.declared.events.Point.TheVariants.{Calm}
+use Rattle.lot_core.specs.Steps.{IsThread}
 use Rattle.lot_core.specs.Parts.{LockPart, CondPart, SemaphorePart}
+use Rattle.lot_core.proofs.Law.{reached_sound}
+use Rattle.lot_core.proofs.WellFormed.{stranger_calm, reached_formed}
 use Rattle.lot_rights.specs.declared.views.Right.{Right}
 use Rattle.lot_rights.specs.Closing.{passes_in, roots_in, Left, Ended}
 use Rattle.lot_rights.specs.History.{events_in, tokens_of}
@@ -16,6 +21,7 @@ use Rattle.lot_rights.specs.Seating.{times}
 use Rattle.lot_rights.specs.Shown.{PassShown, RootShown}
 use Rattle.lot_rights.proofs.Closes.{ended_recounted}
 use Rattle.lot_rights.proofs.Seats.{times_append}
+use Rattle.lot_rights.proofs.Totals.{any_all}
 use Rattle.lot_rights.proofs.Turns.{some_before}
 use Rattle.lot_words.specs.CallersRule.{CallersRule}
 use Rattle.lot_words.specs.declared.views.LockRootView.{LockRootView}
@@ -33,10 +39,14 @@ use Rattle.lot_whole.specs.Family.{Which, lock, cond, sem, LotSize, lock_size, c
 use Rattle.lot_whole.specs.Family.{meaning_of, part_in}
 use Rattle.lot_whole.specs.Lot.{line_of_root, owed_by, own_of, LotWorld, PassOk, LotPassIs, LotRootIs, lot_meaning}
 use Rattle.lot_whole.specs.Lifts.{part_pass}
-use Rattle.lot_whole.specs.Closing.{HasDone, called_in, woken_in, out_with, permits_of, LineIs, IsToldTo}
+use Rattle.lot_whole.specs.Closing.{HasDone, called_in, woken_in, out_with, permits_of, LineIs, IsQuiet, IsToldTo}
+use Rattle.lot_whole.specs.Standing.{IsIdle}
+use Rattle.lot_whole.specs.Whole.{HowMany}
 use Rattle.lot_whole.specs.Order.{queued_in}
 use Rattle.lot_whole.proofs.Counting.{queued_known}
 use Rattle.lot_whole.proofs.Moments.{one_run}
+use Rattle.lot_whole.proofs.Quiet.{quiet_of}
+use Rattle.lot_whole.proofs.Tells.{idle_calm, holds}
 
 -- ---- lists, element by element
 module _ {A B : Type 0} (f : A → B) (P : B → Type 0) where
@@ -166,6 +176,40 @@ module _ {V Part : Type 0} (rule : CallersRule V Part) (z : LotSize) (opening : 
               (locks.last_seen rule (lock_size z) opening (map (in_kind lock) passes) [] (w.words lock) ys (left_in lock) holds_none
               (all_in lock) vs len each l y e)
 
+        -- ---- where all stand idle
+        module _ (idle : All (λ (p : PassShown (LotPassView V)). IsIdle p.own) passes) where
+          -- the pass of each thread is here
+          pass_of : (t : ℕ) → t < z.threads → (p : PassShown (LotPassView V)) × (p.thread ≡ t) × IsIdle p.own × HasDone p
+              × LotPassIs rule z opening w p.thread p.own
+          pass_of t near =
+              let at = all t near in
+              let p = any_all (λ (p : PassShown (LotPassView V)). p.thread ≡ t)
+              (λ (p : PassShown (LotPassView V)). LotPassIs rule z opening w p.thread p.own) passes at left.passes_fit in
+              let q = any_all (λ (p : PassShown (LotPassView V)). p.thread ≡ t) (λ (p : PassShown (LotPassView V)). IsIdle p.own) passes at
+              idle in
+              let r = any_all (λ (p : PassShown (LotPassView V)). p.thread ≡ t) HasDone passes at done in
+              (p.0, p.1, q.2, r.2, p.2)
+
+          in_lot : (t : ℕ) → IsThread w.whole t → t < z.threads
+          in_lot t near = subst (λ (c : HowMany). t < c.threads) left.fits.counts near
+
+          calm : (t : ℕ) → w.whole.point t ≡ Calm
+          calm t = elim (cases_lt t w.whole.threads) [
+            | inl near ↦
+                let it = pass_of t (in_lot t near) in
+                subst (λ u. w.whole.point u ≡ Calm) it.1 (idle_calm rule z opening w ws left.homes left.fits it.0.thread it.0.own it.4 it.2)
+            | inr far ↦ stranger_calm w.whole t (reached_formed w.whole left.fits.reached) (λ near. omega (arith, near, far))
+          ]
+
+          nobody_has : (l t : ℕ) → w.whole.locks.has l t ≡ true → ⊥
+          nobody_has l t has_it =
+              let it = pass_of t (in_lot t ((reached_formed w.whole left.fits.reached).owners l t has_it).0) in
+              it.3.0 l (holds rule z opening w ws left.homes left.fits it.0.thread it.0.own it.4 (it.2.0.up lock) l
+              (subst (λ u. w.whole.locks.has l u ≡ true) (sym it.1) has_it))
+
+          pub is_quiet : IsQuiet w.whole
+          is_quiet = quiet_of w.whole (reached_sound w.whole left.fits.reached) calm nobody_has
+
   -- ---- the history
   line_is : (v : LotWorld rule z opening)
       → ((j : Which) → part_in rule z opening j v.whole ≡ ((meaning_of rule z opening j).told_by (v.each j)).part)
@@ -176,8 +220,8 @@ module _ {V Part : Type 0} (rule : CallersRule V Part) (z : LotSize) (opening : 
   line_is v agrees c (Sem q) h = ap (λ (a : SemaphorePart). a.sems.line c) (agrees sem) ∙ h.1.1
 
   pub told_to : Ended (lot_meaning rule z opening) passes roots ws ys
-      → ((t : ℕ) → t < z.threads → Any (λ (p : PassShown (LotPassView V)). p.thread ≡ t) passes) → IsToldTo z passes roots
-  told_to ended all =
+      → ((t : ℕ) → t < z.threads → Any (λ (p : PassShown (LotPassView V)). p.thread ≡ t) passes) → All HasDone passes → IsToldTo z passes roots
+  told_to ended all done =
       let told = ended_recounted (lot_meaning rule z opening) passes roots ws ys ended in
       record {
         recounted = told;
@@ -191,4 +235,5 @@ module _ {V Part : Type 0} (rule : CallersRule V Part) (z : LotSize) (opening : 
             (λ q is. queued_known rule z opening ended.left.world ws ended.left.homes q.key q.own ended.left.fits is ended.log ended.run
             (ended.owed q.key)) roots ended.left.roots_fit;
         permits = all_out ended.left all;
+        quiet = is_quiet ended.left all done;
       }

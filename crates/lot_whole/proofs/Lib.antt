@@ -6,6 +6,7 @@ pub mod Owing
 pub mod Lifts
 pub mod Slots
 pub mod Tells
+pub mod Quiet
 pub mod Carries
 pub mod Seekers
 pub mod Letters

@@ -6,6 +6,7 @@ use Rattle.lot_core.specs.Model.{StateView}
 use Rattle.lot_core.specs.Steps.{Run, after_all, IsReached}
 use Rattle.lot_core.specs.Sound.{IsSound}
 use Rattle.lot_core.proofs.Law.{reached_sound}
+use Rattle.lot_core.proofs.WellFormed.{reached_formed}
 use Rattle.lot_events.specs.declared.events.Point.{Point}
 use Rattle.lot_events.specs.declared.events.Point.TheVariants.{Wants, Bed, Rest, Seeks}
 use Rattle.lot_events.specs.declared.events.Event.{Event}
@@ -64,7 +65,7 @@ pub one_run : (z : LotSize) (events : List (Event × Seen)) (state : StateView) 
     → ModelRun WholeStep (opening_of z) events state → IsOneRun z events state
 one_run z events state reached seen =
     let run = model_run (opening_of z) events state seen in
-    record { sound = reached_sound state reached; seen = seen; run = run.0; end = run.1 }
+    record { sound = reached_sound state reached; formed = reached_formed state reached; seen = seen; run = run.0; end = run.1 }
 
 module _ {V Part : Type 0} (rule : CallersRule V Part) (z : LotSize) (xs : List V)
     (s : State (Option V) (List (Right (LotPassView V) LotRootView))) (here : Ruled (lot_meaning rule z xs) s) where
@@ -79,7 +80,8 @@ module _ {V Part : Type 0} (rule : CallersRule V Part) (z : LotSize) (xs : List 
         parts = ok.agrees;
         stands = λ t near. (ok.passes t near).stand;
         history = one_run z (events_in here.log) here.world.whole ok.reached (has_one_run (lot_meaning rule z xs) s here).model;
-        orderly = orderly rule.above here.world.whole (reached_sound here.world.whole ok.reached) ok.ordered;
+        orderly = orderly rule.above here.world.whole (reached_sound here.world.whole ok.reached)
+            (reached_formed here.world.whole ok.reached) ok.ordered;
         one_line = one_line here.world.whole (reached_sound here.world.whole ok.reached);
         one_letter = λ t near. (ok.passes t near).apart;
       }

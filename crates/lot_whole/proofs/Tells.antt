@@ -18,7 +18,7 @@ use Rattle.lot_rights.specs.World.{awake, queued, owed, IsLetter}
 use Rattle.lot_words.specs.declared.views.LockPassView.{LockPassView}
 use Rattle.lot_words.specs.declared.views.LockRootView.{LockRootView}
 use Rattle.lot_words.specs.CallersRule.{CallersRule}
-use Rattle.lot_words.specs.World.{Holds}
+use Rattle.lot_words.specs.World.{Holds, IsHanded}
 use Rattle.lot_words.specs.Rule.{wants_of}
 use Rattle.lot_words.proofs.Machine.{awake_is as lock_awake}
 use Rattle.lot_words.proofs.Letters.{debtor_fits}
@@ -86,14 +86,17 @@ module _ {V Part : Type 0} (rule : CallersRule V Part) (z : LotSize) (xs : List 
     at = w.whole.point t
 
     -- ---- what each kind tells
+    is_up : p.locks.asleep ≡ false → (w.each lock).spot t ≡ awake
+    is_up up =
+        let l = w.each lock in
+        lock_awake z.threads l.word l.root t (l.pass t) (l.spot t) ((ok.parts lock).kept.threads t).spot
+        (ap (λ (x : LockPassView V). x.asleep) (pass_ok.each lock).1 ∙ up)
+
     wants : p.locks.asleep ≡ false → wanted at ≡ p.locks.aim
     wants up =
-        let q = pass_ok.each lock in
-        let l = w.each lock in
-        let spot : l.spot t ≡ awake = lock_awake z.threads l.word l.root t (l.pass t) (l.spot t) ((ok.parts lock).kept.threads t).spot
-        (ap (λ (x : LockPassView V). x.asleep) q.1 ∙ up) in
         ap (λ (a : LockPart). a.wants t) (ok.agrees lock)
-        ∙ (ap (λ s. wants_of s (l.pass t).aim) spot ∙ ap (λ (x : LockPassView V). x.aim) q.1)
+        ∙ (ap (λ s. wants_of s ((w.each lock).pass t).aim) (is_up up)
+        ∙ ap (λ (x : LockPassView V). x.aim) (pass_ok.each lock).1)
 
     sweeps : swept_by at ≡ p.conds.sweeps
     sweeps = ap (λ (a : CondPart). a.sweeps t) (ok.agrees cond) ∙ ap (λ (x : CondPassView). x.sweeps) (pass_ok.each cond).1
@@ -118,6 +121,15 @@ module _ {V Part : Type 0} (rule : CallersRule V Part) (z : LotSize) (xs : List 
         ap (λ (a : LockPart). a.locks.has l t) (ok.agrees lock)
         ∙ owner_has (v.word l).owner t
         (((ok.parts lock).kept.threads t).holds l (subst (λ (x : LockPassView V). Holds x l) (sym (pass_ok.each lock).1) h))
+
+    -- and who is up has no other
+    pub holds : p.locks.asleep ≡ false → (l : ℕ) → w.whole.locks.has l t ≡ true → Holds p.locks l
+    holds up l has_it =
+        let v = w.each lock in
+        let owner = owner_is (v.word l).owner t (sym (ap (λ (a : LockPart). a.locks.has l t) (ok.agrees lock)) ∙ has_it) in
+        ⊎_elim {C = Holds p.locks l} (λ h. subst (λ (x : LockPassView V). Holds x l) (pass_ok.each lock).1 h)
+        (λ handed. let none : IsHanded awake l = subst (λ s. IsHanded s l) (is_up up) handed in absurd none)
+        (((ok.parts lock).kept.locks l).had t owner).1
 
     -- ---- where the thread stands
     pub awake_calm : WantsNothing p → p.stand ≡ Idle → at ≡ Calm

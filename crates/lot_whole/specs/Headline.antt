@@ -6,6 +6,7 @@ use Rattle.atomic_table.specs.Table.{State}
 use Rattle.lot_core.specs.Model.{StateView}
 use Rattle.lot_core.specs.Steps.{Run, after_all}
 use Rattle.lot_core.specs.Sound.{IsSound}
+use Rattle.lot_core.specs.WellFormed.{IsWellFormed}
 use Rattle.lot_order.specs.Waiting.{IsOrderly}
 use Rattle.lot_events.specs.declared.events.Event.{Event}
 use Rattle.lot_events.specs.declared.events.Seen.{Seen}
@@ -32,9 +33,11 @@ OneLineOfAll s = (j k : Which) (c d t : ℕ) → Contains (line_in s j c) t → 
 abbrev pub event_of : Event × Seen → Event
 event_of x = x.0
 
--- these events, of which this was seen, are one run of the model from the opening to the state, which is sound
+-- these events, of which this was seen, are one run of the model from the opening to the state, which is sound and names
+-- only what there is
 pub record IsOneRun (z : LotSize) (events : List (Event × Seen)) (state : StateView) : Type 0 where
   pub sound : IsSound state
+  pub formed : IsWellFormed state
   pub seen : ModelRun WholeStep (opening_of z) events state
   pub run : Run (opening_of z) (map event_of events)
   pub end : state ≡ after_all (opening_of z) (map event_of events)
@@ -52,7 +55,7 @@ module _ {V Part : Type 0} (rule : CallersRule V Part) (z : LotSize) (xs : List 
     pub stands : (t : ℕ) → t < z.threads → stand_of (state.point t) ≡ (here.world.pass t).stand
     -- the history without its notices has led to it
     pub history : IsOneRun z (events_in here.log) state
-    -- it is in order, so where the keys rise by some level no circle of threads waits, and some thread goes on
+    -- it is in order, so where the keys rise by some level no circle of threads waits, and each chain of waiting ends
     pub orderly : IsOrderly rule.above state
     -- one line each, over all kinds
     pub one_line : OneLineOfAll state

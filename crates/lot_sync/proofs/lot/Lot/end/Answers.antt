@@ -7,6 +7,7 @@ use Rattle.lot_rights.proofs.Turns.{some_before, no_elements}
 use Rattle.lot_whole.specs.declared.views.LotRootView.{LotRootView}
 use Rattle.lot_whole.specs.Closing.{IsToldTo, HasDone}
 use Rattle.lot_whole.specs.Family.{LotSize, key_count}
+use Rattle.lot_whole.specs.Standing.{IsIdle}
 use Rattle.lot_waits.specs.Counts.{counts_shown}
 use Rattle.lot_waits.specs.Ledger.{IsLedger}
 use Rattle.lot_waits.proofs.Sums.{balanced_of}
@@ -89,6 +90,9 @@ returns-clause-history g c =
       roots = c.unname.new.roots.items;
       are = c.gather.ensures.same;
       told = told;
+      quiet = told.quiet
+          (All-weaker (IsFree g.N.Name.opening.locks) (λ (p : PassShown (LotPassView g.row.V.Denot)). IsIdle p.own) (λ p free. free.idle)
+          rights c.gather.ensures.free);
       made = subst (All (λ (p : PassView g.row.V.Denot). p.made ≡ accesses_of (2 * p.thread) told.recounted.log)) c.gather.ensures.same
           (each_own told.recounted.log rights told.recounted.passes_made);
     }

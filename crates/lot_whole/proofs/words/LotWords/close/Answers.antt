@@ -56,4 +56,4 @@ returns-clause-history g c =
     let all = all_shown (λ (z : LotWordsShown g.row.V.Denot). z.size.threads) c.self.view_is c.args.passes.items c.requires.passes in
     subst (λ (z : LotWordsShown g.row.V.Denot). IsToldTo z.size c.args.passes.items c.args.roots.items) c.self.view_is
     (told_to g.V.Keeps (size_of start) start.values.value.items c.args.passes.items c.args.roots.items
-    (slots_items c.close.result.words) (slots_items c.close.result.slots) c.close.ensures.ended all)
+    (slots_items c.close.result.words) (slots_items c.close.result.slots) c.close.ensures.ended all c.requires.done)
