@@ -78,6 +78,14 @@ pub fn sleeper(first: Option<usize>) -> u64 {
     }
 }
 
+/// The word in which a thread found this letter.
+pub fn letter(found: Option<u32>) -> u64 {
+    match found {
+        Some(token) => token as u64 + 1,
+        None => 0,
+    }
+}
+
 /// How many threads the table is to serve by now, in a copy in which it grows while they run.
 pub fn grown(most: usize) -> usize {
     record_grown(most as u64) as usize
@@ -123,12 +131,13 @@ def recorded_step(text, found, kind, who, what):
     call = text[text.index("words.", found.start()) : end]
     is_last = text[end] != ";"
     word = "0"
-    if names and names.startswith("(") and not found[3].startswith("store"):
+    stores = found[3].startswith(("store", "post"))
+    if names and names.startswith("(") and not stores:
         last = names[1:-1].split(", ")[-1]
         word = "word_found" if last == "_" else last
         names = f"{names[: -len(last) - 1]}{word})"
-    elif is_last and not found[3].startswith("store"):
-        names, word = "told", "told.1"
+    elif is_last and not stores:
+        names, word = "told", "recording::letter(told.1)" if found[3] == "collect" else "told.1"
     of = [*what, *EXPECTS.get(kind, []), "0", "0", "0", "0"][:4]
     lines = [
         f"let by_thread = {who[0]} as u64;",

@@ -1,5 +1,5 @@
 -- The turns of each call: whatever world the words stand for, its step leads to one that they stand for then.
-use Rattle.std.proofs.Common.{◌≡◌, ◌≢◌, ℕ, zero, suc, ◌+◌, ◌-◌, ◌<◌, ◌≤◌, ◌&&◌, ◌⊎◌, ◌==◌, Bool, true, false, List, [], ◌∷◌, ◌++◌, take}
+use Rattle.std.proofs.Common.{◌≡◌, ◌≢◌, ℕ, ◌+◌, ◌<◌, ◌≤◌, ◌&&◌, ◌⊎◌, ◌==◌, Bool, true, false, List, [], ◌∷◌, ◌++◌, take}
 use Rattle.std.proofs.Common.{drop, length, get_or, set, refl, sym, ap, subst, ◌∙◌, inl}
 use Rattle.std.proofs.Common.{inr, ⊎_elim, arith, Option, Some, None}
 use Rattle.std.specs.List.{Contains}
@@ -26,7 +26,7 @@ use Rattle.lot_conds.specs.declared.views.Size.{Size}
 use Rattle.lot_conds.specs.World.{CondWorld, flag_word, SpotFits, Kept}
 use Rattle.lot_conds.specs.Rule.{key_count, sizes_of, part_of, IsStep, Fits, meaning}
 use Rattle.lot_conds.specs.Calls.{IsCalm, enlisted, lowering, called_more, swept_pass, one_wait_more, enlisted_root, called_root}
-use Rattle.lot_conds.specs.Calls.{swept_root, paid_root, FoundNone, Collected, CollectedBy}
+use Rattle.lot_conds.specs.Calls.{swept_root, paid_root, CollectedBy}
 use Rattle.lot_conds.proofs.Machine.{turned, owing, awake_is}
 use Rattle.lot_conds.proofs.Enlists.{is_awake, enlists_kept, lowers_kept}
 use Rattle.lot_conds.proofs.Takes.{took_root, takes_letters, takes_kept}
@@ -385,14 +385,7 @@ module _ (size : Size) (q : RootShown CondRootView) (u : ℕ) (debt : Contains q
       }
 
 abbrev pub Collecting : PassShown CondPassView → ℕ → PassShown CondPassView → Type 0
-Collecting p n q = (n ≤ 1) × CollectedBy p n q
-
-pub collected_none : (p q : PassShown CondPassView) (n : ℕ) → n ≡ 0 → Collecting p n q → FoundNone p q
-collected_none p q n e h = subst (λ z. CollectedBy p z q) e h.1
-
-pub collected_some : (p q : PassShown CondPassView) (n : ℕ) → n ≢ 0 → Collecting p n q → Collected p (n - 1) q
-collected_some p q zero ne h = absurd (ne refl)
-collected_some p q (suc token) ne h = let e : token ≡ suc token - 1 = omega arith in subst (λ z. Collected p z q) e h.1
+Collecting p n q = (n ≤ 2) × CollectedBy p n q
 
 module _ (size : Size) (p : PassShown CondPassView) where
   module _ (w : CondWorld) (ws : List ℕ) (hs : List (maybe.Option (Unit {0}))) (ok : Fits size w ws)

@@ -1,6 +1,6 @@
 //! The kind of table that condition words make.
-use crate::views::{PassKnowledge, RootKnowledge, Size};
-use lot_rights::{Kind, PassOf, RootOf};
+use crate::views::{CondPassView, CondRootView, Size};
+use lot_rights::{Kind, Knowledge, PassOf, RootOf};
 
 /// Condition words: a word is 1 where threads may wait on its condition. Contracts alone read it.
 pub struct Conditions;
@@ -12,9 +12,9 @@ impl Kind for Conditions {
 
     type Slot = ();
 
-    type Pass = PassKnowledge;
+    type Pass = Knowledge<CondPassView>;
 
-    type Root = RootKnowledge;
+    type Root = Knowledge<CondRootView>;
 
     type Key = Size;
 

@@ -1,7 +1,6 @@
 //! What contracts see of the rights: what a pass knows of its conditions, and what a root knows of its line.
 //! No value of these types is made by running code.
 use std::collections::LinkedList;
-use std::marker::Model;
 
 /// What a thread's pass knows, beside its thread and the entries that were made with it.
 pub struct CondPassView {
@@ -21,32 +20,6 @@ pub struct CondRootView {
     pub line: LinkedList<u64>,
     /// The threads that were taken from the line, and are owed a letter.
     pub owes: LinkedList<u64>,
-}
-
-/// Names a `CondPassView` where a type is asked for. It has no fields, so the type of a table does not spell out what a
-/// pass knows.
-pub struct PassKnowledge;
-
-impl Model for PassKnowledge {
-    ghost use Rattle.lot_conds.specs.declared.views.CondPassView.{CondPassView};
-    ghost use Rattle.lot_conds.specs.Rule.{no_pass};
-
-    ghost Value = { CondPassView };
-
-    ghost view = { λ _. no_pass };
-}
-
-/// Names a `CondRootView` where a type is asked for. It has no fields, so the type of a table does not spell out what a
-/// root knows.
-pub struct RootKnowledge;
-
-impl Model for RootKnowledge {
-    ghost use Rattle.lot_conds.specs.declared.views.CondRootView.{CondRootView};
-    ghost use Rattle.lot_conds.specs.Rule.{no_root};
-
-    ghost Value = { CondRootView };
-
-    ghost view = { λ _. no_root };
 }
 
 /// How many threads, locks and conditions a table has. The conditions' numbers follow the locks'.

@@ -13,11 +13,8 @@ use crate::words::{CondWords, HAS_WAITERS};
 use lot_rights::{Numbered, word_of_key};
 use std::marker::Brand;
 
-/// A thread's word where no letter lies.
-const NO_LETTER: u64 = 0;
-
-/// A thread's word where a letter lies. All letters of conditions have the token 0.
-const LETTER: u64 = 1;
+/// The token of all letters of conditions.
+const TOKEN: u32 = 0;
 
 impl CondWords {
     /// Queues the thread last on the root's condition and sets its flag, by one store: the validation of WTF's
@@ -46,8 +43,7 @@ impl CondWords {
             (Posts root.key thread 0) result }
     {
         let words = &self.words;
-        let letter = root.letter_of(thread);
-        words.store_root::<Brand, Numbered, usize>(root, letter, LETTER, thread)
+        words.post::<Brand, Numbered>(root, thread, TOKEN)
     }
 
     /// Collects the pass's letter, by one swap, and answers its token, which is 0, where a letter lay: the thread was
@@ -60,12 +56,7 @@ impl CondWords {
             (λ token. Collected pass token result.0) }
     {
         let words = &self.words;
-        let place = pass.letter();
-        let (pass, letter) = words.swap::<Brand, ()>(pass, place, NO_LETTER, ());
-        if letter == NO_LETTER {
-            return (pass, None);
-        }
-        (pass, Some((letter - LETTER) as u32))
+        words.collect::<Brand>(pass)
     }
 
     /// The condition's flag as it was just now, 0 or 1. It is an observation, of which nothing is promised.

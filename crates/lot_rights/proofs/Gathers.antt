@@ -44,3 +44,8 @@ pub all_shown : {Z P : Type 0} (threads : Z → ℕ) {z shown : Z} → z ≡ sho
     → ((t : ℕ) → t < threads shown → Any (λ (p : PassShown P). p.thread ≡ t) passes)
     → (t : ℕ) → t < threads z → Any (λ (p : PassShown P). p.thread ≡ t) passes
 all_shown {P = P} threads is passes all = subst (λ y. (t : ℕ) → t < threads y → Any (λ (p : PassShown P). p.thread ≡ t) passes) (sym is) all
+
+-- so a table of some threads, all of whose passes are shown, has a pass
+pub some_shown : {Z P : Type 0} (threads : Z → ℕ) {z shown : Z} → z ≡ shown → 0 < threads z → (passes : List (PassShown P)) (n : ℕ)
+    → n ≡ length passes → ((t : ℕ) → t < threads shown → Any (λ (p : PassShown P). p.thread ≡ t) passes) → 0 < n
+some_shown threads is some passes n long all = let first = all_shown threads is passes all 0 some in omega (arith, first.2)

@@ -1,6 +1,7 @@
 -- Seats that join and split keep the rule.
-use Rattle.std.proofs.Common.{◌≡◌, ℕ, ◌+◌, List, [], ◌∷◌, ◌++◌, set, take, drop, sym, subst, arith}
-use Rattle.atomic_table.specs.Table.{Splits, Joins}
+use Rattle.std.proofs.Common.{◌≡◌, ℕ, ◌+◌, ◌<◌, List, [], ◌∷◌, ◌++◌, set, take, drop, sym, ap, subst, arith}
+use Rattle.atomic_table.specs.Seated.{TableId}
+use Rattle.atomic_table.specs.Table.{Me, Splits, Joins}
 use Rattle.lot_rights.specs.declared.views.Right.{Right}
 use Rattle.lot_rights.specs.Seating.{times, Each}
 use Rattle.lot_rights.specs.Rule.{number, made_with, Meaning, RightFits, LeadsOn, Ruled}
@@ -27,6 +28,13 @@ module _ {S P R : Type 0} (k : Meaning S P R) where
     recorded = records_join number made_with (LeadsOn k) k.start ru.log s.views (k.told_by ru.world) ru.recorded id other v w at ne there;
     owed = ru.owed;
   }
+
+  -- a seat that has one right comes to another of its table
+  pub joins_seats : (id other : ℕ) (v : List (Right P R)) (me : Me S (List (Right P R))) (r : Right P R) (table mine its : TableId)
+      → mine ≡ table → its ≡ table → me ≡ (r ∷ [], []) → 0 < table.words
+      → (mine ≡ table) × (its ≡ table) × (me.1 ≡ []) × (0 < table.words) × Joins {S = S} (Ruled k) id v other me.0 (v ++ me.0) []
+  joins_seats id other v me r table mine its here there one some =
+      (here, there, ap (λ (m : Me S (List (Right P R))). m.1) one, some, joins_rule id v other me.0)
 
   -- the rights at a seat are cut in two
   pub splits_rule : (id : ℕ) (v l r : List (Right P R))

@@ -48,6 +48,13 @@ once_joined (x ∷ xs) ys a b c = once_cons x (xs ++ ys)
     (λ h. ⊎_elim {C = ⊥} (head_left x xs a) (c x (in_head x xs)) (Contains-append_cases xs ys x h))
     (once_joined xs ys (once_tail x xs a) b (λ t i. c t (in_tail x xs t i)))
 
+-- who is in the line or named besides, after t came to the line
+pub named_queued : (line : List ℕ) (t u : ℕ) (Besides : Type 0) → Contains (line ++ t ∷ []) u ⊎ Besides
+    → (Contains line u ⊎ Besides) ⊎ (u ≡ t)
+named_queued line t u Besides = ⊎_elim {C = (Contains line u ⊎ Besides) ⊎ (u ≡ t)}
+    (λ i. ⊎_elim {C = (Contains line u ⊎ Besides) ⊎ (u ≡ t)} (λ a. inl (inl a)) (λ a. inr (sym a)) (Contains-push_cases line t u i))
+    (λ d. inl (inr d))
+
 -- ---- the line without one of it
 pub in_without : (t u : ℕ) (xs : List ℕ) → t ≢ u → Contains xs t → Contains (without u xs) t
 in_without t u [] ne h = h

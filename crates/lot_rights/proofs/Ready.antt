@@ -10,9 +10,9 @@ use Rattle.lot_rights.specs.Layout.{word_at, letter_at}
 use Rattle.lot_rights.specs.Rule.{Meaning, Ruled}
 use Rattle.lot_rights.specs.Settled.{LinesHaveNoLetter}
 use Rattle.lot_rights.specs.Shown.{PassShown, RootShown, WordsShown, right_of_pass, right_of_root, the_pass, the_root}
-use Rattle.lot_rights.specs.Steps.{AllowsPass, AllowsBoth, AllowsRoot, TellsOfTwo, TellsOfRoot, ToldPass, ToldBoth, ToldRoot, ToldTwo}
+use Rattle.lot_rights.specs.Steps.{AllowsPass, AllowsBoth, TellsOfTwo, TellsOfRoot, ToldPass, ToldBoth, ToldTwo}
 use Rattle.lot_rights.specs.Steps.{ToldFact}
-use Rattle.lot_rights.proofs.Stepping.{steps_pass, steps_both, steps_root, steps_two, steps_fact}
+use Rattle.lot_rights.proofs.Stepping.{steps_pass, steps_both, steps_two, steps_fact}
 
 -- a right is of the table whose words are seen with it, and what is allowed with it as it is seen is so with it as it is
 pub of_table : {A Key : Type 0} (table : A → TableId) {inside now : WordsShown Key} → inside ≡ now → {mine shown : A} → mine ≡ shown
@@ -32,20 +32,31 @@ module _ {S P R Key : Type 0} (meaning : Key → Meaning S P R) (apart : (key : 
   pub word_in_table : (i : ℕ) → i < now.table.words → i < inside.table.words
   word_in_table i near = subst (λ (x : WordsShown Key). i < x.table.words) (sym is) near
 
+  -- a step of one right, which is allowed with it as it is seen
+  pub ready_one : {A : Type 0} (table_of : A → TableId) (Allowed : Key → A → Type 0) (mine shown : A) → mine ≡ shown
+      → (table : TableId) → table ≡ table_of shown → (id : ℕ) (me : Me S (List (Right P R))) (i : ℕ) (f : ℕ → ℕ)
+      (Told : TableId → A → ℕ → Me S (List (Right P R)) → Type 0)
+      → (Allowed inside.key mine → Allows (Ruled (meaning inside.key)) inside.table.slots id me i f (Told (table_of mine) mine))
+      → table_of shown ≡ now.table → i < now.table.words → Allowed now.key shown
+      → (table_of mine ≡ inside.table) × (i < inside.table.words)
+      × Allows (Ruled (meaning inside.key)) inside.table.slots id me i f (Told table mine)
+  ready_one table_of Allowed mine shown e table named id me i f Told steps here near allows = (
+    of_table table_of is e here,
+    word_in_table i near,
+    subst (λ t. Allows (Ruled (meaning inside.key)) inside.table.slots id me i f (Told t mine)) (ap table_of e ∙ sym named)
+        (steps (allowed_with Allowed is e allows)),
+  )
+
   pub ready_pass : (mine shown : PassShown P) → mine ≡ shown → (table : TableId) → table ≡ shown.table
       → (id : ℕ) (me : Me S (List (Right P R))) → me ≡ (Pass (right_of_pass mine) ∷ [], [])
       → (i : ℕ) (f : ℕ → ℕ) (then : ℕ → PassShown P → Type 0)
       → shown.table ≡ now.table → i < now.table.words → AllowsPass (meaning now.key) i f shown then
       → (mine.table ≡ inside.table) × (i < inside.table.words)
       × Allows (Ruled (meaning inside.key)) inside.table.slots id me i f (ToldPass table (right_of_pass mine) then)
-  ready_pass mine shown e table named id me one i f then here near allows =
-      let own = allowed_with (λ key x. AllowsPass (meaning key) i f x then) is e allows in (
-        of_table (λ (x : PassShown _). x.table) is e here,
-        word_in_table i near,
-        subst (λ t. Allows (Ruled (meaning inside.key)) inside.table.slots id me i f (ToldPass t (right_of_pass mine) then))
-            (ap (λ (x : PassShown P). x.table) e ∙ sym named)
-            (steps_pass (meaning inside.key) (apart inside.key) inside.table.slots id me mine i f then one own),
-      )
+  ready_pass mine shown e table named id me one i f then =
+      ready_one (λ (x : PassShown P). x.table) (λ key x. AllowsPass (meaning key) i f x then) mine shown e table named id me i f
+      (λ t x. ToldPass t (right_of_pass x) then)
+      (steps_pass (meaning inside.key) (apart inside.key) inside.table.slots id me mine i f then one)
 
   -- the pass p and the root q at one seat; `nobody` and `nothing` stand for what no pass and no root knows
   pub ready_both : (nobody : P) (nothing : R) (p : PassShown P) (q : RootShown R) → q.table ≡ p.table
@@ -68,21 +79,6 @@ module _ {S P R Key : Type 0} (meaning : Key → Meaning S P R) (apart : (key : 
             (Pass (right_of_pass p) ∷ Root (right_of_root q) ∷ [], []) i f (ToldBoth t (right_of_pass p) (right_of_root q) then)) (sym name)
             (steps_both (meaning inside.key) (apart inside.key) inside.table.slots id
             (Pass (right_of_pass p) ∷ Root (right_of_root q) ∷ [], []) p q beside i f then refl allowed)),
-      )
-
-  pub ready_root : (mine shown : RootShown R) → mine ≡ shown → (table : TableId) → table ≡ shown.table
-      → (id : ℕ) (me : Me S (List (Right P R))) → me ≡ (Root (right_of_root mine) ∷ [], [])
-      → (i : ℕ) (f : ℕ → ℕ) (then : ℕ → RootShown R → Type 0)
-      → shown.table ≡ now.table → i < now.table.words → AllowsRoot (meaning now.key) i f shown then
-      → (mine.table ≡ inside.table) × (i < inside.table.words)
-      × Allows (Ruled (meaning inside.key)) inside.table.slots id me i f (ToldRoot table (right_of_root mine) then)
-  ready_root mine shown e table named id me one i f then here near allows =
-      let own = allowed_with (λ key x. AllowsRoot (meaning key) i f x then) is e allows in (
-        of_table (λ (x : RootShown _). x.table) is e here,
-        word_in_table i near,
-        subst (λ t. Allows (Ruled (meaning inside.key)) inside.table.slots id me i f (ToldRoot t (right_of_root mine) then))
-            (ap (λ (x : RootShown R). x.table) e ∙ sym named)
-            (steps_root (meaning inside.key) (apart inside.key) inside.table.slots id me mine i f then one own),
       )
 
   -- the passes p and q at one seat

@@ -11,6 +11,7 @@ pub mod Start
 pub mod Closing
 -- the parts that these are made of
 pub mod Shown
+pub mod Single
 pub mod World
 pub mod Lines
 pub mod Layout

@@ -1,58 +1,33 @@
 //! Closing: rights come back.
-ghost use Rattle.std.specs.Prelude.{◌≡◌, ◌<◌, ◌++◌, reverse, vec_len};
+ghost use Rattle.std.specs.Prelude.{◌≡◌, ◌<◌, ◌++◌, map, reverse, vec_len};
 ghost use Rattle.std.specs.Slots.{slots_items, slots_len, IsFull};
 ghost use Rattle.lot_rights.specs.Shown.{PassShown, RootShown};
 ghost use Rattle.std.specs.List.{All};
-ghost use Rattle.lot_rights.specs.Closing.{passes_in, roots_in, Ended};
+ghost use Rattle.lot_rights.specs.Closing.{Ended};
 
 use crate::kind::{Kind, RightsSeat, RightsShared};
 use crate::rights::{Numbering, PassOf, RootAt};
+use crate::seated::AtSeat;
 use crate::tells::Both;
 use crate::words::WordsOf;
 use atomic_table::Closed;
 use std::alloc::Global;
 
-/// All passes come to one seat.
-fn gather_passes<K: Kind>(
+/// All these rights come to one seat.
+fn gather<K: Kind, T: AtSeat<K>>(
     shared: &RightsShared<K>,
     mut seat: RightsSeat<K>,
-    mut passes: Vec<PassOf<K>>,
+    mut rights: Vec<T>,
 ) -> RightsSeat<K>
     requires table { (seat.table_id ≡ shared.now.table_id) × (0 < shared.now.table_id.words) }
-    requires all { All (λ (p : PassShown K.Pass). p.table ≡ shared.now.table_id) passes.items }
+    requires all { All (λ (r : T). (T.single r).0 ≡ shared.now.table_id) rights.items }
     ensures table { result.table_id ≡ shared.now.table_id }
-    ensures rights { result.me.0 ≡ seat.me.0 ++ passes_in (reverse passes.items) }
+    ensures rights { result.me.0 ≡ seat.me.0 ++ map (λ (r : T). (T.single r).1) (reverse rights.items) }
 {
-    while let Some(pass) = passes.pop() {
-        let PassOf {
-            seat: other,
-            thread: _,
-        } = pass;
-        shared.join_seat::<Both>(&mut seat, other);
+    while let Some(right) = rights.pop() {
+        shared.join_seat::<Both>(&mut seat, right.seat());
     }
-    passes.destroy_empty();
-    seat
-}
-
-/// All roots come to one seat.
-fn gather_roots<K: Kind, A: Numbering>(
-    shared: &RightsShared<K>,
-    mut seat: RightsSeat<K>,
-    mut roots: Vec<RootAt<K, A>>,
-) -> RightsSeat<K>
-    requires table { (seat.table_id ≡ shared.now.table_id) × (0 < shared.now.table_id.words) }
-    requires all { All (λ (q : RootShown K.Root). q.table ≡ shared.now.table_id) roots.items }
-    ensures table { result.table_id ≡ shared.now.table_id }
-    ensures rights { result.me.0 ≡ seat.me.0 ++ roots_in (reverse roots.items) }
-{
-    while let Some(root) = roots.pop() {
-        let RootAt {
-            seat: other,
-            number: _,
-        } = root;
-        shared.join_seat::<Both>(&mut seat, other);
-    }
-    roots.destroy_empty();
+    rights.destroy_empty();
     seat
 }
 
@@ -72,9 +47,9 @@ impl<K: Kind> WordsOf<K> {
             (slots_items result.slots) }
     {
         let WordsOf { table } = self;
-        let PassOf { seat, thread: _ } = passes.take_last();
-        let seat = gather_passes(&table.shared, seat, passes);
-        let seat = gather_roots(&table.shared, seat, roots);
+        let seat = passes.take_last().seat();
+        let seat = gather(&table.shared, seat, passes);
+        let seat = gather(&table.shared, seat, roots);
         table.close_with(seat)
     }
 }

@@ -20,7 +20,8 @@
 //! A kind proves a *turn* of each of its calls: the step keeps the invariant from every state in which the call is
 //! allowed. Turns speak of worlds and of the model alone, never of seats, logs or tables.
 //!
-//! Read `specs/Seating`, `specs/History` and `specs/Rule` first, then `specs/Steps`, and `words` for the steps.
+//! Read `specs/Seating`, `specs/History` and `specs/Rule` first, then `specs/Steps`, `words` for the steps, and
+//! `letters` for how a thread is told.
 #![tactic(auto)]
 
 mod closing;
@@ -28,10 +29,12 @@ pub mod fault;
 pub mod kind;
 pub mod laws;
 mod layout;
+mod letters;
 pub mod named;
 mod opening;
 pub mod pairs;
 pub mod rights;
+mod seated;
 mod slots;
 pub mod tells;
 pub mod views;
@@ -42,4 +45,5 @@ pub use kind::Kind;
 pub use layout::{MOST_KEYS, word_of_key, words_for};
 pub use named::{Name, Named, OfOpening};
 pub use rights::{Lying, LyingRootOf, Numbered, Numbering, PassOf, RootAt, RootOf};
+pub use views::Knowledge;
 pub use words::WordsOf;

@@ -10,6 +10,7 @@ ghost use Rattle.lot_rights.specs.Steps.{AllowsBoth, AllowsRoot, TellsOfTwo, Tel
 use crate::kind::{Kind, RightsSeat};
 use crate::layout::SPARE_WORD;
 use crate::rights::{Numbered, Numbering, PassOf, RootAt, RootOf};
+use crate::seated::AtSeat;
 use crate::tells::{
     Both, BothStep, FactStep, FirstAndRest, RootStep, TellsBoth, TellsFact, TellsRoot, TwoStep,
 };
@@ -27,15 +28,8 @@ impl<K: Kind> WordsOf<K> {
         ensures letters { (u : ℕ) → K.names root.own u → letter_at u < result.table_id.words }
     {
         let shared = &self.table.shared;
-        let PassOf {
-            mut seat,
-            thread: _,
-        } = pass;
-        let RootAt {
-            seat: other,
-            number: _,
-        } = root;
-        shared.join_seat::<Both>(&mut seat, other);
+        let mut seat = pass.seat();
+        shared.join_seat::<Both>(&mut seat, root.seat());
         seat
     }
 

@@ -1,6 +1,7 @@
 //! What contracts see of rights. No value of these types is made by running code.
 use lot_core::{Event, Seen};
 use std::collections::LinkedList;
+use std::marker::{Model, PhantomData};
 
 /// One single access to a word, as the history tells it.
 pub enum Access {
@@ -47,4 +48,17 @@ pub struct RootRight<R> {
 pub enum Right<P, R> {
     Pass(PassRight<P>),
     Root(RootRight<R>),
+}
+
+/// Names what a right knows where a type is asked for. It has no field but a false fact, so no value of it is made, and
+/// the type of a table does not spell out what its rights know.
+pub struct Knowledge<T> {
+    of: PhantomData<T>,
+    ghost none: { ⊥ },
+}
+
+impl<T> Model for Knowledge<T> {
+    ghost Value = { T };
+
+    ghost view = { λ s. absurd s.none };
 }

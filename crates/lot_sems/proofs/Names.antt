@@ -1,18 +1,15 @@
 -- Whom a root names after a step: those whom it named, and the thread of the pass.
-use Rattle.std.proofs.Common.{◌≡◌, ℕ, ◌⊎◌, Bool, true, false, List, [], ◌∷◌, refl, sym, subst, inl, inr, ⊎_elim}
+use Rattle.std.proofs.Common.{◌≡◌, ℕ, ◌⊎◌, Bool, true, false, List, [], ◌∷◌, refl, sym, subst, inl, ⊎_elim}
 use Rattle.std.specs.List.{Contains}
-use Rattle.std.proofs.lemmas.List.Elements.{Contains-push_cases}
 use Rattle.lot_core.proofs.Members.{in_head, in_tail}
+use Rattle.lot_rights.proofs.Lines.{named_queued}
 use Rattle.lot_sems.specs.declared.views.SemRootView.{SemRootView}
 use Rattle.lot_sems.specs.Rule.{names}
 use Rattle.lot_sems.specs.Calls.{parked_root, passed_root, paid_root}
 use Rattle.lot_sems.proofs.Machine.{no_some, same_some}
 
 pub park_names : (q q' : SemRootView) (t u : ℕ) (queued : Bool) → q' ≡ parked_root q t queued → names q' u → names q u ⊎ (u ≡ t)
-park_names q q' t u true e h =
-    ⊎_elim {C = names q u ⊎ (u ≡ t)}
-    (λ i. ⊎_elim {C = names q u ⊎ (u ≡ t)} (λ a. inl (inl a)) (λ a. inr (sym a)) (Contains-push_cases q.line t u i))
-    (λ d. inl (inr d)) (subst (λ z. names z u) e h)
+park_names q q' t u true e h = named_queued q.line t u _ (subst (λ z. names z u) e h)
 park_names q q' t u false e h = inl (subst (λ z. names z u) e h)
 
 passed_names : (q : SemRootView) (line : List ℕ) → q.line ≡ line → (u : ℕ) → names (passed_root q line) u → names q u

@@ -27,7 +27,7 @@ use Rattle.lot_sems.specs.declared.views.SemRootView.{SemRootView}
 use Rattle.lot_sems.specs.World.{Numbers, sizes_of, SemWorld, word_of, told_in, sleeps, NoticesFit, PassKnows, RootKnows}
 use Rattle.lot_sems.specs.Rule.{IsStep, Fits, meaning}
 use Rattle.lot_sems.specs.Calls.{IsCalm, IsSeeking, MayGive, one_permit_less, woken, parked_pass, parked_root, passed_root, paid_root}
-use Rattle.lot_sems.specs.Calls.{raise_of, FoundNone, Collected, CollectedBy}
+use Rattle.lot_sems.specs.Calls.{raise_of, CollectedBy}
 use Rattle.lot_sems.proofs.Machine.{awake_is, in_no_line, notice_at, park_letters, was_queued, pass_letters, pass_sleeps, is_owed_here}
 use Rattle.lot_sems.proofs.Machine.{post_letters, post_sleeps, collect_letters}
 use Rattle.lot_sems.proofs.Rows.{turned, same_line, same_seeks, row_queued, row_not_queued, row_pass_none, row_pass, row_clear}
@@ -52,7 +52,7 @@ abbrev pub Pays : RootShown SemRootView → ℕ → RootShown SemRootView → Ty
 Pays q u q' = RootNotes q (paid_root q.own) (Posts q.key u 0) q'
 
 abbrev pub Collecting : PassShown SemPassView → ℕ → PassShown SemPassView → Type 0
-Collecting p n q = (n ≤ 1) × CollectedBy p n q
+Collecting p n q = (n ≤ 2) × CollectedBy p n q
 
 -- ---- words
 -- 1 says that no permit is left and that the semaphore is parked
@@ -272,13 +272,6 @@ module _ (size : Numbers) (q : RootShown SemRootView) (u : ℕ) (debt : q.own.ow
         counted = λ log. tt;
         told = λ i. (i, refl);
       }
-
-pub collected_none : (p q : PassShown SemPassView) (n : ℕ) → n ≡ 0 → Collecting p n q → FoundNone p q
-collected_none p q n e h = subst (λ z. CollectedBy p z q) e h.1
-
-pub collected_some : (p q : PassShown SemPassView) (n : ℕ) → n ≢ 0 → Collecting p n q → Collected p (n - 1) q
-collected_some p q zero ne h = absurd (ne refl)
-collected_some p q (suc token) ne h = let e : token ≡ suc token - 1 = omega arith in subst (λ z. Collected p z q) e h.1
 
 module _ (size : Numbers) (p : PassShown SemPassView) where
   module _ (w : SemWorld) (ws : List ℕ) (hs : List (maybe.Option (Unit {0}))) (ok : Fits size w ws)

@@ -54,6 +54,13 @@ module _ (a : SemaphorePart) where
   part_is t k l b xs o s left parked line out seeks e f g h d =
       λ i. record { sems = record { left = e i; parked = f i; line = g i; out = h i }; seeks = d i }
 
+  -- nothing but the parked bit changes
+  bit_turned : (t k : ℕ) (b : Bool) → turned a t k (a.sems.left k) b (a.sems.line k) (a.sems.out k t) (a.seeks t)
+      ≡ record a { sems = record a.sems { parked = put a.sems.parked k b } }
+  bit_turned t k b =
+      part_is t k (a.sems.left k) b (a.sems.line k) (a.sems.out k t) (a.seeks t) a.sems.left (put a.sems.parked k b) a.sems.line a.sems.out
+      a.seeks (same_left k) refl (same_line k) (same_out k t) (same_seeks t)
+
   module _ (size : Numbers) (t : ℕ) (near : t < size.threads) (k : ℕ) (among : IsAmong size k) where
     module _ (may : (a.seeks t ≡ None) ⊎ PartSeeks a t k) where
       -- a permit is taken
@@ -94,13 +101,7 @@ module _ (a : SemaphorePart) where
     module _ (seeks : PartSeeks a t k) where
       pub row_mark : a.sems.left k ≡ 0 → IsStep size a (SemMark t k) Done
           (turned a t k (a.sems.left k) true (a.sems.line k) (a.sems.out k t) (a.seeks t))
-      row_mark none =
-          let z = a.sems in (
-            (near, among, seeks, none),
-            refl,
-            part_is t k (z.left k) true (z.line k) (z.out k t) (a.seeks t) z.left (put z.parked k true) z.line z.out a.seeks
-                (same_left k) refl (same_line k) (same_out k t) (same_seeks t),
-          )
+      row_mark none = ((near, among, seeks, none), refl, bit_turned t k true)
 
       pub row_queued : (none_left a.sems k && a.sems.parked k) ≡ true → IsStep size a (SemPark t k) (Saw true)
           (turned a t k (a.sems.left k) (a.sems.parked k) (a.sems.line k ++ t ∷ []) (a.sems.out k t) (a.seeks t))
@@ -165,10 +166,4 @@ module _ (a : SemaphorePart) where
 
       pub row_clear : a.sems.line k ≡ [] → IsStep size a (SemClear t k) Done
           (turned a t k (a.sems.left k) false (a.sems.line k) (a.sems.out k t) (a.seeks t))
-      row_clear e =
-          let z = a.sems in (
-            (near, among, calm, e),
-            refl,
-            part_is t k (z.left k) false (z.line k) (z.out k t) (a.seeks t) z.left (put z.parked k false) z.line z.out a.seeks
-                (same_left k) refl (same_line k) (same_out k t) (same_seeks t),
-          )
+      row_clear e = ((near, among, calm, e), refl, bit_turned t k false)

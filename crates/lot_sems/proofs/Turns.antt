@@ -2,7 +2,7 @@
 -- stand for then.
 use Rattle.std.proofs.Common.{◌≡◌, ◌≢◌, ℕ, zero, suc, ◌+◌, ◌-◌, ◌*◌, ◌%◌, ◌^◌, ◌<◌, ◌≤◌, ◌⊎◌, ◌==◌, Bool, true, false, List, get_or, set}
 use Rattle.std.proofs.Common.{refl, sym, ap, subst, ◌∙◌, inl, inr, ⊎_elim, arith}
-use Rattle.std.proofs.Common.{eq-eqb, ne_eqb, MatchBool, Option, Some, None}
+use Rattle.std.proofs.Common.{MatchBool, Option, Some, None}
 use mathlib.Core.Option as maybe
 use prog.Atomic.{either}
 use Rattle.lot_core.specs.Model.{put}
@@ -18,6 +18,7 @@ use Rattle.lot_rights.specs.History.{maker}
 use Rattle.lot_rights.specs.Layout.{word_at}
 use Rattle.lot_rights.specs.World.{awake}
 use Rattle.lot_rights.specs.Steps.{Notes, IsOwed, PassTurn, AllowsPass, pass_after}
+use Rattle.lot_rights.proofs.Places.{pass_at_word}
 use Rattle.lot_rights.proofs.Puts.{by_test}
 use Rattle.lot_rights.proofs.Staying.{pass_stays}
 use Rattle.lot_sems.specs.declared.taking.Taken.{Taken}
@@ -25,11 +26,19 @@ use Rattle.lot_sems.specs.declared.taking.Taken.TheVariants.{Got, Empty, Busy}
 use Rattle.lot_sems.specs.declared.views.SemPassView.{SemPassView}
 use Rattle.lot_sems.specs.World.{Numbers, IsAmong, SemWorld, word_of, NoticesFit, PassKnows}
 use Rattle.lot_sems.specs.Rule.{IsStep, Fits, meaning}
+use Rattle.lot_sems.specs.Shown.{SemWordsShown}
 use Rattle.lot_sems.specs.Calls.{IsSeeking, MayTake, MayGive, seeking, one_permit_more, one_permit_less, Found, Exchanges, Misses}
-use Rattle.lot_sems.specs.Calls.{IsAnyLeft, Tries, Takes, TakesFrom, IsUnmarked, Frees}
+use Rattle.lot_sems.specs.Calls.{IsAnyLeft, Tries, Takes, TakesFrom, taken_after, IsUnmarked, Frees}
 use Rattle.lot_sems.proofs.Machine.{awake_is, in_no_line, seeks_letters}
 use Rattle.lot_sems.proofs.Rows.{turned, same_line, row_got, row_empty, row_mark, row_free}
 use Rattle.lot_sems.proofs.Turning.{after, fits_after, pass_after as knows_after, passes_else, out_same, left_few}
+
+-- a call's step at a semaphore's word is allowed, if it is so whatever the table's numbers are
+pub at_sem : {z shown : SemWordsShown} → z ≡ shown → {k place : ℕ} → IsAmong shown.size k → place ≡ word_at k → (f : ℕ → ℕ)
+    (p : PassShown SemPassView) (then : ℕ → PassShown SemPassView → Type 0)
+    → ((y : SemWordsShown) → IsAmong y.size k → AllowsPass (meaning y.size) (word_at k) f p then)
+    → AllowsPass (meaning z.size) place f p then
+at_sem is {k} among at = pass_at_word (λ (z : SemWordsShown). meaning z.size) is (λ z. IsAmong z.size k) among (word_at k) at
 
 -- ---- what each step tells
 -- a look at the word of k, by a thread that seeks a permit where none is left
@@ -56,13 +65,11 @@ seeks_left p k zero q some h = absurd (omega arith)
 seeks_left p k (suc zero) q some h = absurd (omega arith)
 seeks_left p k (suc (suc n)) q some h = h
 
--- the exchange was made, or it failed
-module _ (p : PassShown SemPassView) (k : ℕ) (own : SemPassView) (e : Event) (seen n : ℕ) (q : PassShown SemPassView) where
-  pub swapped : n ≡ seen → Swaps p k own e seen n q → Notes p own (Makes e (Saw true)) q
-  swapped is h = subst (λ b. MatchBool b (Notes p own (Makes e (Saw true)) q) (Found p k n q)) (eq-eqb n seen is) h
-
-  pub unswapped : n ≢ seen → Swaps p k own e seen n q → Found p k n q
-  unswapped ne h = subst (λ b. MatchBool b (Notes p own (Makes e (Saw true)) q) (Found p k n q)) (ne_eqb n seen ne) h
+-- the exchange for a permit was made, or it failed
+pub took : (p : PassShown SemPassView) (k seen n : ℕ) (q : PassShown SemPassView)
+    → Swaps p k (one_permit_more p.own k) (SemTake p.thread k) seen n q → TakesFrom p k seen (taken_after (n == seen)) q
+took p k seen n q = by_test (λ b. MatchBool b (Notes p (one_permit_more p.own k) (Makes (SemTake p.thread k) (Saw true)) q) (Found p k n q)
+    → TakesFrom p k seen (taken_after b) q) n seen (λ is h. h) (λ ne h. (n, ne, h))
 
 -- ---- a look, by which p became r, and then an exchange
 module _ (p r : PassShown SemPassView) (k seen : ℕ) (look : Found p k seen r) where

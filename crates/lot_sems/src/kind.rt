@@ -1,7 +1,7 @@
 //! The kind of table that semaphore words make.
 use crate::start::Start;
-use crate::views::{PassKnowledge, RootKnowledge};
-use lot_rights::{Kind, PassOf, RootOf};
+use crate::views::{SemPassView, SemRootView};
+use lot_rights::{Kind, Knowledge, PassOf, RootOf};
 
 /// Semaphore words: a word is twice the permits that are left of its semaphore, and the parked bit. Contracts alone
 /// read it.
@@ -13,9 +13,9 @@ impl Kind for Semaphores {
 
     type Slot = ();
 
-    type Pass = PassKnowledge;
+    type Pass = Knowledge<SemPassView>;
 
-    type Root = RootKnowledge;
+    type Root = Knowledge<SemRootView>;
 
     type Key = Start;
 

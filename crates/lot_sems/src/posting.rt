@@ -10,11 +10,8 @@ use crate::words::SemWords;
 use lot_rights::{Numbered, word_of_key};
 use std::marker::Brand;
 
-/// A thread's word where no letter lies.
-const NO_LETTER: u64 = 0;
-
-/// A thread's word where a letter lies. All letters of semaphores have the token 0.
-const LETTER: u64 = 1;
+/// The token of all letters of semaphores.
+const TOKEN: u32 = 0;
 
 impl SemWords {
     /// Posts the letter that the root owes, by one store, while the bucket of the semaphore is still locked.
@@ -25,8 +22,7 @@ impl SemWords {
         ensures posted { RootNotes root (paid_root root.own) (Posts root.key thread 0) result }
     {
         let words = &self.words;
-        let letter = root.letter_of(thread);
-        words.store_root::<Brand, Numbered, usize>(root, letter, LETTER, thread)
+        words.post::<Brand, Numbered>(root, thread, TOKEN)
     }
 
     /// Collects the pass's letter, by one swap, and answers its token, which is 0, where a letter lay: the thread was
@@ -39,12 +35,7 @@ impl SemWords {
             (λ token. Collected pass token result.0) }
     {
         let words = &self.words;
-        let place = pass.letter();
-        let (pass, letter) = words.swap::<Brand, ()>(pass, place, NO_LETTER, ());
-        if letter == NO_LETTER {
-            return (pass, None);
-        }
-        (pass, Some((letter - LETTER) as u32))
+        words.collect::<Brand>(pass)
     }
 
     /// The semaphore's word as it was just now: twice the permits that are left, and 1 more where it is marked as

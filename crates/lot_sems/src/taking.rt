@@ -5,7 +5,7 @@ ghost use Rattle.lot_events.specs.declared.events.Seen.TheVariants.{Done};
 ghost use Rattle.lot_rights.specs.declared.views.Access.TheVariants.{Makes, Finds};
 ghost use Rattle.lot_rights.specs.Steps.{Notes};
 ghost use Rattle.lot_sems.specs.World.{IsAmong};
-ghost use Rattle.lot_sems.specs.Calls.{IsCalm, MayTake, IsSeeking, IsAnyLeft, Tries, Takes, TakesFrom};
+ghost use Rattle.lot_sems.specs.Calls.{IsCalm, MayTake, IsSeeking, IsAnyLeft, Tries, Takes, TakesFrom, taken_after};
 
 use crate::kind::SemPass;
 use crate::words::{NONE_LEFT, PARKED, PERMIT, SemWords};
@@ -22,6 +22,16 @@ pub enum Taken {
     /// A look found a permit, and the exchange that followed found another word than the look. Nothing changed, and it
     /// may be tried again.
     Busy,
+}
+
+impl Taken {
+    /// What came of an exchange, which was made or not.
+    #[inline(always)]
+    pub fn after(made: bool) -> Taken
+        ensures { result ≡ taken_after made }
+    {
+        if made { Taken::Got } else { Taken::Busy }
+    }
 }
 
 impl SemWords {
@@ -82,12 +92,7 @@ impl SemWords {
             seen - PERMIT,
             key,
         );
-        let taken = if found == seen {
-            Taken::Got
-        } else {
-            Taken::Busy
-        };
-        (pass, taken)
+        (pass, Taken::after(found == seen))
     }
 
     /// Marks a semaphore of which no permit is left as parked, by one compare-exchange, and says whether it did. The

@@ -66,6 +66,10 @@ module _ {V Part : Type 0} (rule : CallersRule V Part) where
   abbrev pub TakesFree : PassShown (LotPassView V) → ℕ → ℕ → PassShown (LotPassView V) → Type 0
   TakesFree p l n q = MatchBool (n == 0) (GetsBy rule p l (Makes (Take p.thread l) (Saw true)) q) (FindsOf p l n q)
 
+  pub got_free : (p : PassShown (LotPassView V)) (l n : ℕ) (q : PassShown (LotPassView V)) → n ≡ 0 → TakesFree p l n q
+      → GetsBy rule p l (Makes (Take p.thread l) (Saw true)) q
+  got_free p l n q free told = subst (λ m. TakesFree p l m q) free told
+
   pub missed_free : (p : PassShown (LotPassView V)) (l n : ℕ) (q : PassShown (LotPassView V)) → n ≢ 0 → TakesFree p l n q
       → FindsOf p l n q
   missed_free p l n q other told =

@@ -162,19 +162,23 @@ module _ {V Part : Type 0} (rule : CallersRule V Part) (z : LotSize) (opening : 
 
         module _ (vs : List V) (len : length vs ≡ z.locks)
             (each : (k : ℕ) (y : V) → slice_get vs k ≡ Some y → get_elem? ys k ≡ some (Some y)) where
-          pub last_found : All (λ (p : PassShown (LotPassView V)). (l : ℕ) (y : V) → slice_get vs l ≡ Some y
-              → FoundOk rule l p.thread p.own.locks y) passes
-          last_found = all_images (in_kind lock)
-              (λ (p : PassShown (PassIn V lock)). (l : ℕ) (y : V) → slice_get vs l ≡ Some y → FoundOk rule l p.thread p.own y)
-              passes
-              (locks.last_found rule (lock_size z) opening (map (in_kind lock) passes) [] (w.words lock) ys (left_in lock) holds_none
-              (all_in lock) vs len each)
+          of_locks : All (λ (p : PassShown (PassIn V lock)). (l : ℕ) (y : V) → slice_get vs l ≡ Some y → FoundOk rule l p.thread p.own y)
+              (map (in_kind lock) passes)
+              × ((l : ℕ) (y : V) → slice_get vs l ≡ Some y
+              → Any (λ (p : PassShown (PassIn V lock)). HasSeen p.own l y) (map (in_kind lock) passes))
+          of_locks =
+              locks.last_values rule (lock_size z) opening (map (in_kind lock) passes) [] (w.words lock) ys (left_in lock) holds_none
+              (all_in lock) vs len each
 
-          pub last_seen : (l : ℕ) (y : V) → slice_get vs l ≡ Some y
-              → Any (λ (p : PassShown (LotPassView V)). HasSeen p.own.locks l y) passes
-          last_seen l y e = some_before (in_kind lock) (λ (p : PassShown (PassIn V lock)). HasSeen p.own l y) passes
-              (locks.last_seen rule (lock_size z) opening (map (in_kind lock) passes) [] (w.words lock) ys (left_in lock) holds_none
-              (all_in lock) vs len each l y e)
+          pub last_values : All (λ (p : PassShown (LotPassView V)). (l : ℕ) (y : V) → slice_get vs l ≡ Some y
+              → FoundOk rule l p.thread p.own.locks y) passes
+              × ((l : ℕ) (y : V) → slice_get vs l ≡ Some y → Any (λ (p : PassShown (LotPassView V)). HasSeen p.own.locks l y) passes)
+          last_values = (
+            all_images (in_kind lock)
+                (λ (p : PassShown (PassIn V lock)). (l : ℕ) (y : V) → slice_get vs l ≡ Some y → FoundOk rule l p.thread p.own y) passes
+                of_locks.0,
+            λ l y e. some_before (in_kind lock) (λ (p : PassShown (PassIn V lock)). HasSeen p.own l y) passes (of_locks.1 l y e),
+          )
 
         -- ---- where all stand idle
         module _ (idle : All (λ (p : PassShown (LotPassView V)). IsIdle p.own) passes) where

@@ -1,5 +1,5 @@
 -- Letters that are posted with a root, and collected with a pass: of which kind they are, the pass tells.
-use Rattle.std.proofs.Common.{◌≡◌, ◌≢◌, ℕ, zero, suc, ◌+◌, ◌-◌, ◌<◌, ◌≤◌, Bool, true, false, List, get_or, refl, sym}
+use Rattle.std.proofs.Common.{◌≡◌, ◌≢◌, ℕ, zero, suc, ◌+◌, ◌<◌, ◌≤◌, Bool, true, false, List, refl, sym}
 use Rattle.std.proofs.Common.{ap, subst, inl, inr, arith, Option, Some, None}
 use Rattle.std.specs.Prelude.{is_some}
 use Rattle.std.specs.List.{Contains}
@@ -27,8 +27,7 @@ use Rattle.lot_whole.specs.declared.views.LotPassView.{LotPassView}
 use Rattle.lot_whole.specs.Family.{Which, lock, cond, sem, LotSize, lock_size, cond_size, sem_size, RootIn, away}
 use Rattle.lot_whole.specs.Lot.{own_of, root_from, LotWorld, LotFits, LotPassIs, LotRootIs, lot_meaning}
 use Rattle.lot_whole.specs.Lifts.{part_pass, whole_root, Speaks, Quiet, InPlace, CarriesRoot}
-use Rattle.lot_whole.specs.Calls.{RootNotesIn, CollectsIn, FoundNone, Collected}
-use Rattle.lot_whole.specs.Calls.{CollectedBy}
+use Rattle.lot_whole.specs.Calls.{RootNotesIn, CollectsIn}
 use Rattle.lot_whole.proofs.Carries.{notes_tell, Carried, carry}
 use Rattle.lot_whole.proofs.Lifts.{lifts_pass, lifts_root}
 use Rattle.lot_whole.proofs.Steps.{root_in}
@@ -97,20 +96,20 @@ module _ {V Part : Type 0} (rule : CallersRule V Part) (z : LotSize) (xs : List 
 
 -- ---- collecting
 module _ {V Part : Type 0} (rule : CallersRule V Part) where
+  -- what the number found tells, by where the thread is away
+  abbrev pub CollectedIn : PassShown (LotPassView V) → Bool → Option ℕ → ℕ → PassShown (LotPassView V) → Type 0
+  CollectedIn p asleep out zero q = Notes p p.own (Collects p.thread None) q
+  CollectedIn p asleep out (suc token) q = CollectsIn rule p asleep out token q
+
+  abbrev CollectingIn : PassShown (LotPassView V) → Bool → Option ℕ → ℕ → PassShown (LotPassView V) → Type 0
+  CollectingIn p asleep out n q = (n ≤ 2) × CollectedIn p asleep out n q
+
+  abbrev pub CollectedHere : PassShown (LotPassView V) → ℕ → PassShown (LotPassView V) → Type 0
+  CollectedHere p = CollectedIn p p.own.locks.asleep p.own.conds.out
+
   -- what the swap tells, by the number found
   abbrev pub Collecting : PassShown (LotPassView V) → ℕ → PassShown (LotPassView V) → Type 0
-  Collecting p n q = (n ≤ 2) × CollectedBy rule p n q
-
-  -- the same, by where the thread is away
-  abbrev CollectingIn : PassShown (LotPassView V) → Bool → Option ℕ → ℕ → PassShown (LotPassView V) → Type 0
-  CollectingIn p asleep out zero q = (0 ≤ 2) × Notes p p.own (Collects p.thread None) q
-  CollectingIn p asleep out (suc token) q = (suc token ≤ 2) × CollectsIn rule p asleep out token q
-
-  by_number : (p : PassShown (LotPassView V)) (n : ℕ) (q : PassShown (LotPassView V))
-      → CollectingIn p p.own.locks.asleep p.own.conds.out n q
-      → Collecting p n q
-  by_number p zero q h = h
-  by_number p (suc token) q h = h
+  Collecting p n q = (n ≤ 2) × CollectedHere p n q
 
 module _ {V Part : Type 0} (rule : CallersRule V Part) (z : LotSize) (xs : List V) (p : PassShown (LotPassView V)) where
   abbrev t : ℕ
@@ -186,27 +185,4 @@ module _ {V Part : Type 0} (rule : CallersRule V Part) (z : LotSize) (xs : List 
       (λ n own a told. from_sem silent n own a (told 0))
 
   pub collects : AllowsPass (lot_meaning rule z xs) (letter_at t) (λ _. 0) p (Collecting rule p)
-  collects w ws hs ok fit small =
-      let turn = by_pass p.own.locks.asleep p.own.conds.out refl refl w ws hs ok fit small in
-      record {
-        own = turn.own;
-        access = turn.access;
-        world = turn.world;
-        fits = turn.fits;
-        pass = turn.pass;
-        passes = turn.passes;
-        roots = turn.roots;
-        made = turn.made;
-        owed = turn.owed;
-        counted = turn.counted;
-        told = λ k. by_number rule p (get_or ws (letter_at t) 0) (pass_after p turn.own k turn.access) (turn.told k);
-      }
-
--- ---- what the number found tells the caller
-module _ {V Part : Type 0} (rule : CallersRule V Part) (p q : PassShown (LotPassView V)) where
-  pub collected_none : (n : ℕ) → n ≡ 0 → Collecting rule p n q → FoundNone p q
-  collected_none n e h = subst (λ m. CollectedBy rule p m q) e h.1
-
-  pub collected_some : (n : ℕ) → n ≢ 0 → Collecting rule p n q → Collected rule p (n - 1) q
-  collected_some zero ne h = absurd (ne refl)
-  collected_some (suc token) ne h = let e : token ≡ suc token - 1 = omega arith in subst (λ m. Collected rule p m q) e h.1
+  collects = by_pass p.own.locks.asleep p.own.conds.out refl refl

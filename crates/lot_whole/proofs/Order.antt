@@ -78,6 +78,19 @@ module _ (i : ℕ) (y : Entry) (log : List Entry) (x : Access) (rest : List Acce
   abbrev made : Bool → List Entry → List Access
   made b zs = map (λ (z : Entry). z.access) (either b (y ∷ entries_of i zs) (entries_of i zs))
 
+  -- the first entry stands before what is placed in the rest
+  after_first : (front all : List Access) (p : Placed i log front x rest) → made (doer y.access == i) p.before ≡ all
+      → Placed i (y ∷ log) all x rest
+  after_first front all p is = record {
+    before = y ∷ p.before;
+    entry = p.entry;
+    behind = p.behind;
+    there = ap (λ zs. y ∷ zs) p.there;
+    entry_is = p.entry_is;
+    before_is = is;
+    behind_is = p.behind_is;
+  }
+
   -- the first entry is the right's own or not
   by_first : (b : Bool) → (doer y.access == i) ≡ b → (front : List Access) → made b log ≡ front ++ x ∷ rest
       → Placed i (y ∷ log) front x rest
@@ -93,26 +106,9 @@ module _ (i : ℕ) (y : Entry) (log : List Entry) (x : Access) (rest : List Acce
   by_first true is (a ∷ front) e =
       let same : y.access ≡ a = cc in
       let p = later front (let f : accesses_of i log ≡ front ++ x ∷ rest = cc in f) in
-      record {
-        before = y ∷ p.before;
-        entry = p.entry;
-        behind = p.behind;
-        there = ap (λ zs. y ∷ zs) p.there;
-        entry_is = p.entry_is;
-        before_is = ap (λ b. made b p.before) is ∙ ((λ k. same k ∷ p.before_is k));
-        behind_is = p.behind_is;
-      }
+      after_first front (a ∷ front) p (ap (λ b. made b p.before) is ∙ ((λ k. same k ∷ p.before_is k)))
   by_first false is front e =
-      let p = later front e in
-      record {
-        before = y ∷ p.before;
-        entry = p.entry;
-        behind = p.behind;
-        there = ap (λ zs. y ∷ zs) p.there;
-        entry_is = p.entry_is;
-        before_is = ap (λ b. made b p.before) is ∙ p.before_is;
-        behind_is = p.behind_is;
-      }
+      let p = later front e in after_first front front p (ap (λ b. made b p.before) is ∙ p.before_is)
 
 no_more : (front : List Access) (x : Access) (rest : List Access) → [] ≡ front ++ x ∷ rest → ⊥
 no_more [] x rest e = cc

@@ -1,6 +1,6 @@
 -- What the calls of semaphores carry to the lot.
 use Rattle.std.proofs.Common.{◌≡◌, ◌≢◌, ℕ, zero, suc, ◌+◌, ◌-◌, ◌%◌, ◌^◌, ◌<◌, ◌==◌, Bool, true, false, List, [], bit_and, refl}
-use Rattle.std.proofs.Common.{sym, subst, ◌∙◌, inl, inr, arith, eq-eqb, ne_eqb, MatchBool, None}
+use Rattle.std.proofs.Common.{sym, subst, ◌∙◌, inl, inr, arith, MatchBool, None}
 use prog.Atomic.{either}
 use Rattle.lot_core.specs.Steps.{SaysMore, first}
 use Rattle.lot_events.specs.declared.events.Event.{Event}
@@ -19,7 +19,7 @@ use Rattle.lot_sems.specs.declared.views.SemPassView.{SemPassView}
 use Rattle.lot_sems.specs.declared.views.SemRootView.{SemRootView}
 use Rattle.lot_sems.specs.Calls.{IsCalm, MayTake, IsAnyLeft, IsUnmarked, seeking, one_permit_more, one_permit_less, parked_pass}
 use Rattle.lot_sems.specs.Calls.{parked_root, passed_root}
-use Rattle.lot_sems.specs.Calls.{raise_of}
+use Rattle.lot_sems.specs.Calls.{raise_of, taken_after}
 use Rattle.lot_sems.specs.Calls as sem_calls
 use Rattle.lot_sems.proofs.Turns as sems
 use Rattle.lot_sems.proofs.Roots as sem_roots
@@ -75,12 +75,11 @@ module _ {V : Type 0} where
   seeks_left p k (suc zero) q some h = absurd (omega arith)
   seeks_left p k (suc (suc n)) q some h = h
 
-  module _ (p : PassShown (LotPassView V)) (k : ℕ) (own : SemPassView) (e : Event) (seen n : ℕ) (q : PassShown (LotPassView V)) where
-    pub swapped : n ≡ seen → Swaps p k own e seen n q → NotesIn sem p own (Makes e (Saw true)) q
-    swapped is h = subst (λ b. MatchBool b (NotesIn sem p own (Makes e (Saw true)) q) (FindsOf p k n q)) (eq-eqb n seen is) h
-
-    pub unswapped : n ≢ seen → Swaps p k own e seen n q → FindsOf p k n q
-    unswapped ne h = subst (λ b. MatchBool b (NotesIn sem p own (Makes e (Saw true)) q) (FindsOf p k n q)) (ne_eqb n seen ne) h
+  pub took : (p : PassShown (LotPassView V)) (k seen n : ℕ) (q : PassShown (LotPassView V))
+      → Swaps p k (one_permit_more p.own.sems k) (SemTake p.thread k) seen n q → TakesFrom p k seen (taken_after (n == seen)) q
+  took p k seen n q =
+      by_test (λ b. MatchBool b (NotesIn sem p (one_permit_more p.own.sems k) (Makes (SemTake p.thread k) (Saw true)) q)
+      (FindsOf p k n q) → TakesFrom p k seen (taken_after b) q) n seen (λ is h. h) (λ ne h. (n, ne, h))
 
   -- ---- a look, by which p became r, and then an exchange
   module _ (p r : PassShown (LotPassView V)) (k seen : ℕ) (look : FindsOf p k seen r) where

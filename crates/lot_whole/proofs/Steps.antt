@@ -170,16 +170,19 @@ module _ {V Part : Type 0} (rule : CallersRule V Part) (z : LotSize) (xs : List 
       abbrev before : Telling StateView
       before = record { part = w.whole; letters = sum_of (letters_in rule z xs w) }
 
-      -- where the access a has led
-      pub record Gone (a : Access) : Type 0 where
-        pub leads : Leads (lot_meaning rule z xs) before a (record { part = whole_by a w.whole; letters = sum_of letters })
-        pub agrees : (k : Which) → part_in rule z xs k (whole_by a w.whole) ≡ ((meaning_of rule z xs k).told_by (each k)).part
-        pub counts : counts_in (whole_by a w.whole) ≡ counts_of z
-        pub reached : IsReached (whole_by a w.whole)
-        pub ordered : IsOrdered rule.above (whole_by a w.whole)
+      -- the access a has led to the state s of the whole
+      pub record GoneTo (a : Access) (s : StateView) : Type 0 where
+        pub leads : Leads (lot_meaning rule z xs) before a (record { part = s; letters = sum_of letters })
+        pub agrees : (k : Which) → part_in rule z xs k s ≡ ((meaning_of rule z xs k).told_by (each k)).part
+        pub counts : counts_in s ≡ counts_of z
+        pub reached : IsReached s
+        pub ordered : IsOrdered rule.above s
         -- of a thread's access, it alone moves; of a root's, nobody does
-        pub moved : (t : ℕ) → doer a ≡ 2 * t → Stands w.whole t (whole_by a w.whole).point (moves_by a (stand_of (w.whole.point t)))
-        pub rests : (c : ℕ) → doer a ≡ 2 * c + 1 → whole_by a w.whole ≡ w.whole
+        pub moved : (t : ℕ) → doer a ≡ 2 * t → Stands w.whole t s.point (moves_by a (stand_of (w.whole.point t)))
+        pub rests : (c : ℕ) → doer a ≡ 2 * c + 1 → s ≡ w.whole
+
+      abbrev pub Gone : Access → Type 0
+      Gone a = GoneTo a (whole_by a w.whole)
 
       stays_put : (t : ℕ) → Stands w.whole t w.whole.point (stand_of (w.whole.point t))
       stays_put t = sym (put_again (told stand_of w.whole.point) t)
@@ -209,59 +212,44 @@ module _ {V Part : Type 0} (rule : CallersRule V Part) (z : LotSize) (xs : List 
             rests = λ c by. absurd (omega (arith, by));
           }
 
-      gone_by_collecting : (u : ℕ) (found : Option ℕ) → Leads (meaning_of rule z xs j) told_j (Collects u found) told_v
-          → Speaks rule z xs j w (Collects u found) → Gone (Collects u found)
-      gone_by_collecting u None goes speaks = record {
-        leads = (three_one (letters_in rule z xs w) j u speaks ∙ goes.0, between (same_letters (λ y. (goes.1 y).letters)));
-        agrees = same_parts (λ y. (goes.1 y).part);
+      -- a notice leaves the state as it was
+      gone_by_notice : (a : Access) → Leads (lot_meaning rule z xs) before a (record { part = w.whole; letters = sum_of letters })
+          → told_v.part ≡ told_j.part
+          → ((t : ℕ) → doer a ≡ 2 * t → Stands w.whole t w.whole.point (moves_by a (stand_of (w.whole.point t)))) → GoneTo a w.whole
+      gone_by_notice a leads part moved = record {
+        leads = leads;
+        agrees = same_parts part;
         counts = ok.counts;
         reached = ok.reached;
         ordered = ok.ordered;
-        moved = λ t by. stays_put t;
-        rests = λ _ _. refl;
-      }
-      gone_by_collecting u (Some n) goes speaks = record {
-        leads = (
-          three_one (letters_in rule z xs w) j u speaks
-              ∙ goes.0,
-          λ h. record { part = w.whole; letters = put_letters u 0 speaks (λ y. (goes.1 y).letters) h },
-        );
-        agrees = same_parts (λ y. (goes.1 y).part);
-        counts = ok.counts;
-        reached = ok.reached;
-        ordered = ok.ordered;
-        moved = λ t by. stays_put t;
+        moved = moved;
         rests = λ _ _. refl;
       }
 
+      gone_by_collecting : (u : ℕ) (found : Option ℕ) → Leads (meaning_of rule z xs j) told_j (Collects u found) told_v
+          → Speaks rule z xs j w (Collects u found) → Gone (Collects u found)
+      gone_by_collecting u None goes speaks = gone_by_notice (Collects u None)
+          (three_one (letters_in rule z xs w) j u speaks ∙ goes.0, between (same_letters (λ y. (goes.1 y).letters)))
+          (λ y. (goes.1 y).part) (λ t by. stays_put t)
+      gone_by_collecting u (Some n) goes speaks = gone_by_notice (Collects u (Some n)) (
+        three_one (letters_in rule z xs w) j u speaks ∙ goes.0,
+        λ h. record { part = w.whole; letters = put_letters u 0 speaks (λ y. (goes.1 y).letters) h },
+      )
+          (λ y. (goes.1 y).part) (λ t by. stays_put t)
+
       pub gone : (a : Access) → Leads (meaning_of rule z xs j) told_j a told_v → Speaks rule z xs j w a → Gone a
       gone (Makes e saw) goes speaks = gone_by_event e saw goes speaks
-      gone (Posts c u n) goes speaks = record {
-        leads = (
-          three_one (letters_in rule z xs w) j u speaks
-              ∙ goes.0,
-          λ h. record { part = w.whole; letters = put_letters u (n + 1) speaks (λ y. (goes.1 y).letters) h },
-        );
-        agrees = same_parts (λ y. (goes.1 y).part);
-        counts = ok.counts;
-        reached = ok.reached;
-        ordered = ok.ordered;
-        moved = λ t by. absurd (omega (arith, by));
-        rests = λ _ _. refl;
-      }
+      gone (Posts c u n) goes speaks = gone_by_notice (Posts c u n) (
+        three_one (letters_in rule z xs w) j u speaks ∙ goes.0,
+        λ h. record { part = w.whole; letters = put_letters u (n + 1) speaks (λ y. (goes.1 y).letters) h },
+      )
+          (λ y. (goes.1 y).part) (λ t by. absurd (omega (arith, by)))
       gone (Collects u found) goes speaks = gone_by_collecting u found goes speaks
-      gone (Finds u c n) goes speaks = record {
-        leads = (
-          goes.0 ∙ (ap (λ p. (meaning_of rule z xs j).word_in p c) (sym (ok.agrees j)) ∙ sym (word_is rule z xs j w.whole c speaks)),
-          between (same_letters (λ y. (goes.1 y).letters)),
-        );
-        agrees = same_parts (λ y. (goes.1 y).part);
-        counts = ok.counts;
-        reached = ok.reached;
-        ordered = ok.ordered;
-        moved = λ t by. stays_put t;
-        rests = λ _ _. refl;
-      }
+      gone (Finds u c n) goes speaks = gone_by_notice (Finds u c n) (
+        goes.0 ∙ (ap (λ p. (meaning_of rule z xs j).word_in p c) (sym (ok.agrees j)) ∙ sym (word_is rule z xs j w.whole c speaks)),
+        between (same_letters (λ y. (goes.1 y).letters)),
+      )
+          (λ y. (goes.1 y).part) (λ t by. stays_put t)
       gone (Counts u c told handed waiting) goes speaks = absurd speaks
 
       -- ---- the world after the access a

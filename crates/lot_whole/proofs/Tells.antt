@@ -5,6 +5,7 @@ use Rattle.std.specs.Prelude.{◌+◌, ◌==◌, not, is_some}
 use Rattle.std.specs.List.{Contains}
 use mathlib.Core.Option as maybe
 use Rattle.lot_core.specs.Model.{StateView}
+use Rattle.lot_core.proofs.Following.{sought_is}
 use Rattle.lot_core.specs.Steps.{MayLetGo as LetsGo, seen}
 use Rattle.lot_core.specs.Parts.{LockPart, CondPart, SemaphorePart, StandsBefore, wanted, swept_by, sought}
 use Rattle.lot_events.specs.declared.events.Event.TheVariants.{Take, Enlist, SemTake}
@@ -50,10 +51,6 @@ calm_is (Seeks k) w c s st = absurd (let e : Some k ≡ None = s in cc)
 wants_is : (p : Point) (l : ℕ) → wanted p ≡ Some l → p ≡ Wants l
 wants_is (Wants k) l e = let same : k ≡ l = cc in ap Wants same
 wants_is _ l e = absurd (cc)
-
-seeks_is : (p : Point) (k : ℕ) → sought p ≡ Some k → p ≡ Seeks k
-seeks_is (Seeks j) k e = let same : j ≡ k = cc in ap Seeks same
-seeks_is _ k e = absurd (cc)
 
 bed_is : (p : Point) (c l : ℕ) → stand_of p ≡ AtBed c l → p ≡ Bed c l
 bed_is (Bed d m) c l e = let a : d ≡ c = cc in let b : m ≡ l = cc in (λ i. Bed (a i) (b i))
@@ -154,7 +151,7 @@ module _ {V Part : Type 0} (rule : CallersRule V Part) (z : LotSize) (xs : List 
         (λ h. inr (h.2.0, bed_is at h.2.0 l (pass_ok.stand ∙ h.2.1))) may
 
     pub may_seek : (k : ℕ) → MayTakePermit p k → (at ≡ Calm) ⊎ (at ≡ Seeks k)
-    may_seek k may = ⊎_elim {C = (at ≡ Calm) ⊎ (at ≡ Seeks k)} (λ h. inr (seeks_is at k (seeks ∙ h.1))) (λ idle. inl (idle_calm idle)) may
+    may_seek k may = ⊎_elim {C = (at ≡ Calm) ⊎ (at ≡ Seeks k)} (λ h. inr (sought_is at k (seeks ∙ h.1))) (λ idle. inl (idle_calm idle)) may
 
     -- ---- the order of keys
     -- who is up has nothing that its pass does not tell
@@ -194,7 +191,7 @@ module _ {V Part : Type 0} (rule : CallersRule V Part) (z : LotSize) (xs : List 
 
     pub keeps_seek : (k : ℕ) → MayWantPermit rule.above p k → KeepsOrder rule.above w.whole (SemTake t k)
     keeps_seek k may none = ⊎_elim {C = AllBelow rule.above (held_by w.whole t) k}
-        (λ h. (ordered_at rule.above w.whole t (Seeks k) ok.ordered (seeks_is at k (seeks ∙ h.1))).1)
+        (λ h. (ordered_at rule.above w.whole t (Seeks k) ok.ordered (sought_is at k (seeks ∙ h.1))).1)
         (λ idle. below k idle (may.1 idle))
         may.0
 

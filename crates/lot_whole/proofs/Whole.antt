@@ -14,7 +14,7 @@ use Rattle.lot_core.proofs.Following.{semaphore_part_allows}
 use Rattle.lot_core.proofs.Members.{in_head}
 use Rattle.lot_core.proofs.Put.{by_bit, put_again, told_put, told_same}
 use Rattle.lot_events.specs.declared.events.Point.{Point}
-use Rattle.lot_events.specs.declared.events.Point.TheVariants.{Calm, Wants, Bed, Rest, Sweeps, Seeks}
+use Rattle.lot_events.specs.declared.events.Point.TheVariants.{Calm, Wants, Bed, Sweeps, Seeks}
 use Rattle.lot_events.specs.declared.events.Event.{Event}
 use Rattle.lot_events.specs.declared.events.Event.TheVariants.{Try, Take, Mark, Park, Free, Pass, Enlist, Look, Call, Lower, Sweep, SemTake}
 use Rattle.lot_events.specs.declared.events.Event.TheVariants.{SemMark, SemPark, SemFree, SemPass, SemClear}
@@ -113,12 +113,8 @@ module _ {V Part : Type 0} (rule : CallersRule V Part) (z : LotSize) (xs : List 
 
 -- ---- how threads stand after an event
 rises_is : (p : Point) → stand_of (released p) ≡ rises (stand_of p)
-rises_is Calm = refl
-rises_is (Wants l) = refl
 rises_is (Bed c l) = refl
-rises_is (Rest c l) = refl
-rises_is (Sweeps c) = refl
-rises_is (Seeks k) = refl
+rises_is _ = refl
 
 stays_put : (s : StateView) (t : ℕ) → Stands s t s.point (stand_of (s.point t))
 stays_put s t = sym (put_again (told stand_of s.point) t)

@@ -144,8 +144,3 @@ module _ {V Part : Type 0} (rule : CallersRule V Part) where
 
   abbrev pub Collected : PassShown (LotPassView V) → ℕ → PassShown (LotPassView V) → Type 0
   Collected p token q = CollectsIn p p.own.locks.asleep p.own.conds.out token q
-
-  -- by the number in the letter
-  abbrev pub CollectedBy : PassShown (LotPassView V) → ℕ → PassShown (LotPassView V) → Type 0
-  CollectedBy p zero q = FoundNone p q
-  CollectedBy p (suc token) q = Collected p token q

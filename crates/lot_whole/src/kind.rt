@@ -1,7 +1,7 @@
 //! The kind of table that a lot's words make.
 use crate::start::Start;
-use crate::views::{PassKnowledge, RootKnowledge};
-use lot_rights::{Kind, LyingRootOf, PassOf, RootOf};
+use crate::views::{LotPassView, LotRootView};
+use lot_rights::{Kind, Knowledge, LyingRootOf, PassOf, RootOf};
 use lot_words::Keeps;
 use std::marker::PhantomData;
 
@@ -17,9 +17,9 @@ impl<V: Keeps> Kind for WholeLot<V> {
 
     type Slot = Option<V>;
 
-    type Pass = PassKnowledge<V>;
+    type Pass = Knowledge<LotPassView<V>>;
 
-    type Root = RootKnowledge;
+    type Root = Knowledge<LotRootView>;
 
     type Key = Start<V>;
 

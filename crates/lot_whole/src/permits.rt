@@ -89,12 +89,7 @@ impl<V: Keeps> LotWords<V> {
             seen - PERMIT,
             key,
         );
-        let taken = if found == seen {
-            Taken::Got
-        } else {
-            Taken::Busy
-        };
-        (pass, taken)
+        (pass, Taken::after(found == seen))
     }
 
     /// Marks a semaphore of which no permit is left as parked, by one compare-exchange, and says whether it did. The

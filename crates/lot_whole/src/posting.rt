@@ -10,9 +10,6 @@ use lot_rights::Lying;
 use lot_words::Keeps;
 use std::marker::Brand;
 
-/// A thread's word where no letter lies. Where one lies, the word is its token and 1.
-const NO_LETTER: u64 = 0;
-
 impl<V: Keeps> LotWords<V> {
     /// Posts a letter that the root of a key owes, by one store, while the bucket of the key is still locked. The store
     /// is the same for keys of all kinds, so a root that lies without its number will do.
@@ -23,13 +20,7 @@ impl<V: Keeps> LotWords<V> {
         ensures posted { RootNotes root (paid root.own thread) (Posts root.key thread token) result }
     {
         let words = &self.words;
-        let letter = root.letter_of(thread);
-        words.store_root::<Brand, Lying, (usize, u32)>(
-            root,
-            letter,
-            token as u64 + 1,
-            (thread, token),
-        )
+        words.post::<Brand, Lying>(root, thread, token)
     }
 
     /// Collects the pass's letter, by one swap, and answers its token where a letter lay. Whose letter it is the pass
@@ -43,11 +34,6 @@ impl<V: Keeps> LotWords<V> {
             (λ token. Collected V.Keeps pass token result.0) }
     {
         let words = &self.words;
-        let place = pass.letter();
-        let (pass, letter) = words.swap::<Brand, ()>(pass, place, NO_LETTER, ());
-        if letter == NO_LETTER {
-            return (pass, None);
-        }
-        (pass, Some((letter - 1) as u32))
+        words.collect::<Brand>(pass)
     }
 }

@@ -3,7 +3,6 @@
 use lot_conds::views::{CondPassView, CondRootView};
 use lot_sems::views::{SemPassView, SemRootView};
 use lot_words::views::{LockPassView, LockRootView};
-use std::marker::{Model, PhantomData};
 
 /// How a thread stands at a condition, which no kind tells alone: nowhere, at the bed of a condition with a lock that
 /// it has yet to let go, or at rest on a condition after it let the lock go.
@@ -26,32 +25,4 @@ pub enum LotRootView {
     Lock(LockRootView),
     Cond(CondRootView),
     Sem(SemRootView),
-}
-
-/// Names a `LotPassView` where a type is asked for. It has no fields, so the type of a table does not spell out what
-/// a pass knows.
-pub struct PassKnowledge<V> {
-    of: PhantomData<V>,
-}
-
-impl<V> Model for PassKnowledge<V> {
-    ghost use Rattle.lot_whole.specs.declared.views.LotPassView.{LotPassView};
-    ghost use Rattle.lot_whole.specs.Lot.{no_pass};
-
-    ghost Value = { LotPassView V };
-
-    ghost view = { λ _. no_pass };
-}
-
-/// Names a `LotRootView` where a type is asked for. It has no fields, so the type of a table does not spell out what
-/// a root knows.
-pub struct RootKnowledge;
-
-impl Model for RootKnowledge {
-    ghost use Rattle.lot_whole.specs.declared.views.LotRootView.{LotRootView};
-    ghost use Rattle.lot_whole.specs.Lot.{no_root};
-
-    ghost Value = { LotRootView };
-
-    ghost view = { λ _. no_root };
 }

@@ -68,7 +68,7 @@ module _ {V Part : Type 0} (rule : CallersRule V Part) (size : Size) (opening : 
           some-injective (Some (value_at l)) (Some y) (sym (lies_at l (lock_of l y e)) ∙ each l y e) in cc
 
       -- the value in the slot is lawful to each pass
-      pub last_found : All (λ (p : PassShown (LockPassView V)). (l : ℕ) (y : V) → slice_get vs l ≡ Some y
+      last_found : All (λ (p : PassShown (LockPassView V)). (l : ℕ) (y : V) → slice_get vs l ≡ Some y
           → FoundOk rule l p.thread p.own y) passes
       last_found =
           All-weaker Fits (λ (p : PassShown (LockPassView V)). (l : ℕ) (y : V) → slice_get vs l ≡ Some y
@@ -80,7 +80,7 @@ module _ {V Part : Type 0} (rule : CallersRule V Part) (size : Size) (opening : 
           left.passes_fit
 
       -- some pass has seen it
-      pub last_seen : (l : ℕ) (y : V) → slice_get vs l ≡ Some y → Any (λ (p : PassShown (LockPassView V)). HasSeen p.own l y) passes
+      last_seen : (l : ℕ) (y : V) → slice_get vs l ≡ Some y → Any (λ (p : PassShown (LockPassView V)). HasSeen p.own l y) passes
       last_seen l y e =
           let seen = (left.fits.lawful.each l (lock_of l y e)).witness in
           let p = all seen.0 seen.1.0 in
@@ -92,3 +92,8 @@ module _ {V Part : Type 0} (rule : CallersRule V Part) (size : Size) (opening : 
             subst (HasSeen p.1.own l) (same_at l y e)
                 (subst (λ z. HasSeen z l (value_at l)) (ap w.pass (sym p.4) ∙ fit.1) seen.1.1),
           )
+
+      pub last_values : All (λ (p : PassShown (LockPassView V)). (l : ℕ) (y : V) → slice_get vs l ≡ Some y
+          → FoundOk rule l p.thread p.own y) passes
+          × ((l : ℕ) (y : V) → slice_get vs l ≡ Some y → Any (λ (p : PassShown (LockPassView V)). HasSeen p.own l y) passes)
+      last_values = (last_found, last_seen)

@@ -1,5 +1,5 @@
 -- The turn of a letter that is collected, or looked for in vain.
-use Rattle.std.proofs.Common.{◌≡◌, ◌≢◌, ℕ, zero, suc, ◌+◌, ◌-◌, ◌<◌, ◌≤◌, true, false, List, length, refl, sym, ap, subst, ◌∙◌}
+use Rattle.std.proofs.Common.{◌≡◌, ℕ, ◌+◌, ◌<◌, ◌≤◌, true, false, List, length, refl, sym, ap, subst, ◌∙◌}
 use Rattle.std.proofs.Common.{⊎_elim, arith, Option, Some, None}
 use mathlib.Core.Option as maybe
 use Rattle.lot_core.specs.Model.{put}
@@ -17,7 +17,7 @@ use Rattle.lot_words.specs.CallersRule.{CallersRule}
 use Rattle.lot_words.specs.World.{LockWorld, word_of, Holds, IsHanded, TellsTrue, SpotFits, Kept}
 use Rattle.lot_words.specs.Values.{FoundOk, IsLawful}
 use Rattle.lot_words.specs.Rule.{sizes_of, wants_of, Fits, meaning}
-use Rattle.lot_words.specs.Calls.{owning, woken, FoundNone, Collected, CollectedBy}
+use Rattle.lot_words.specs.Calls.{owning, woken, CollectedBy}
 use Rattle.lot_words.proofs.Letters.{wakes_kept, collector_sleeps, lies_fits, handed_owner, handed_near, handed_kept}
 use Rattle.lot_words.proofs.Rows.{same_collect}
 use Rattle.lot_words.proofs.Valuing.{same_values, finds_value, gets_value}
@@ -26,13 +26,6 @@ module _ {V Part : Type 0} (rule : CallersRule V Part) where
   -- what the swap tells, by the number found
   abbrev pub Collecting : PassShown (LockPassView V) → ℕ → PassShown (LockPassView V) → Type 0
   Collecting p n q = (n ≤ 2) × CollectedBy rule p n q
-
-  pub collected_none : (p q : PassShown (LockPassView V)) (n : ℕ) → n ≡ 0 → Collecting p n q → FoundNone p q
-  collected_none p q n e h = subst (λ z. CollectedBy rule p z q) e h.1
-
-  pub collected_some : (p q : PassShown (LockPassView V)) (n : ℕ) → n ≢ 0 → Collecting p n q → Collected rule p (n - 1) q
-  collected_some p q zero ne h = absurd (ne refl)
-  collected_some p q (suc token) ne h = let e : token ≡ suc token - 1 = omega arith in subst (λ z. Collected rule p z q) e h.1
 
   module _ (size : Size) (xs : List V) (p : PassShown (LockPassView V)) (w : LockWorld V) (ws : List ℕ)
       (hs : List (maybe.Option (Option V)))

@@ -56,6 +56,17 @@ module _ {V : Type 0} (n m : ℕ) (w : LockWorld V) (ok : Kept n m w) where
   handed_owner t l h =
       ⊎_elim {C = (w.word l).owner ≡ Some t} (λ e. absurd (omega arith)) (λ e. e.1) (tells t (w.spot t) (ok.threads t).spot l 1 h)
 
+  -- a letter of another token than 0 hands the lock over, so the thread wants nothing then
+  gets_so : (t k c : ℕ) → (w.pass t).aim ≡ Some k → TellsTrue (w.word k).owner t (suc c) → (l : ℕ)
+      → (None ≡ Some l → ((w.pass t).aim ≡ Some l) × ¬ ((k ≡ l) × (suc c ≡ 1)))
+      × ((((w.pass t).aim ≡ Some l) × ¬ ((k ≡ l) × (suc c ≡ 1))) → None ≡ Some l)
+  gets_so t k c aim told l = (
+    (λ e. absurd (let f : None ≡ Some l = e in cc)),
+    (λ h.
+        absurd
+        (h.1 ((let e : Some k ≡ Some l = sym aim ∙ h.0 in cc), ⊎_elim {C = suc c ≡ 1} (λ e. absurd (omega arith)) (λ e. e.0) told))),
+  )
+
   -- a letter of token 0 leaves what the thread wants; the other token is 1
   wants_so : (t : ℕ) (sp : Spot) → SpotFits n w.word w.root t (w.pass t) sp → (l : ℕ)
       → (wants_of sp (w.pass t).aim ≡ Some l → ((w.pass t).aim ≡ Some l) × ¬ IsHanded sp l)
@@ -63,19 +74,9 @@ module _ {V : Type 0} (n m : ℕ) (w : LockWorld V) (ok : Kept n m w) where
   wants_so t awake fits l = ((λ e. (e, (λ h. h))), (λ h. h.0))
   wants_so t (queued k) fits l = ((λ e. (e, (λ h. h))), (λ h. h.0))
   wants_so t (owed k zero) fits l = ((λ e. (e, (λ h. absurd (omega (arith, h.1))))), (λ h. h.0))
-  wants_so t (owed k (suc c)) fits l = (
-    (λ e. absurd (let f : None ≡ Some l = e in cc)),
-    (λ h.
-        absurd
-        (h.1 ((let e : Some k ≡ Some l = sym fits.0.2 ∙ h.0 in cc), ⊎_elim {C = suc c ≡ 1} (λ e. absurd (omega arith)) (λ e. e.0) fits.2))),
-  )
+  wants_so t (owed k (suc c)) fits l = gets_so t k c fits.0.2 fits.2 l
   wants_so t (lying k zero) fits l = ((λ e. (e, (λ h. absurd (omega (arith, h.1))))), (λ h. h.0))
-  wants_so t (lying k (suc c)) fits l = (
-    (λ e. absurd (let f : None ≡ Some l = e in cc)),
-    (λ h.
-        absurd
-        (h.1 ((let e : Some k ≡ Some l = sym fits.0.2 ∙ h.0 in cc), ⊎_elim {C = suc c ≡ 1} (λ e. absurd (omega arith)) (λ e. e.0) fits.1))),
-  )
+  wants_so t (lying k (suc c)) fits l = gets_so t k c fits.0.2 fits.1 l
 
   pub sound : IsSound w n
   sound = record {

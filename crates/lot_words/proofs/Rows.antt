@@ -108,6 +108,18 @@ module _ {V : Type 0} (w : LockWorld V) where
           ⊎_elim {C = MayTry (part_of w) t l} (λ e. inl (wants_now ∙ e)) (λ e. inr (wants_now ∙ e, not_in_line))
           (aim_cases (w.pass t).aim l aims)
 
+      -- the part after a try: where it found the lock held (as c says) nothing is taken, and else t has it
+      abbrev after_try : (Bool → ℕ → Option ℕ) → Bool → LockPart
+      after_try wanted c = record {
+        locks = cond c (part_of w).locks (record (part_of w).locks
+            { held = put (part_of w).locks.held l true; has = put (part_of w).locks.has l (put ((part_of w).locks.has l) t true) });
+        wants = wanted c;
+      }
+
+      -- t wants the lock from then on, where it didn't get it
+      abbrev seeking : Bool → ℕ → Option ℕ
+      seeking c = put wants t (cond c (Some l) None)
+
       -- ---- take and try
       module _ (unheld : (w.word l).owner ≡ None) (x : V) where
         abbrev got : LockWorld V
@@ -143,24 +155,14 @@ module _ {V : Type 0} (w : LockWorld V) where
 
         pub row_take_free : Aims (w.pass t) l → LockStep n m (part_of w) (Take t l) (Saw true) (part_of got)
         row_take_free aims =
-            let then : Bool → LockPart = λ c. record {
-              locks = cond c (part_of w).locks (record (part_of w).locks
-                  { held = put (part_of w).locks.held l true; has = put (part_of w).locks.has l (put ((part_of w).locks.has l) t true) });
-              wants = put wants t (cond c (Some l) None);
-            } in
-            ((near, here, may_try aims), ap (λ c. Saw (not c)) free_now, got_part (put wants t None) refl ∙ ap then free_now)
+            ((near, here, may_try aims), ap (λ c. Saw (not c)) free_now, got_part (put wants t None) refl ∙ ap (after_try seeking) free_now)
 
         pub row_try_free : (w.pass t).aim ≡ None → LockStep n m (part_of w) (Try t l) (Saw true) (part_of got)
-        row_try_free aim =
-            let then : Bool → LockPart = λ c. record {
-              locks = cond c (part_of w).locks (record (part_of w).locks
-                  { held = put (part_of w).locks.held l true; has = put (part_of w).locks.has l (put ((part_of w).locks.has l) t true) });
-              wants = wants;
-            } in (
-              (near, here, wants_now ∙ aim),
-              ap (λ c. Saw (not c)) free_now,
-              got_part wants (ap (put wants t) (sym (wants_now ∙ aim)) ∙ put_again wants t) ∙ ap then free_now,
-            )
+        row_try_free aim = (
+          (near, here, wants_now ∙ aim),
+          ap (λ c. Saw (not c)) free_now,
+          got_part wants (ap (put wants t) (sym (wants_now ∙ aim)) ∙ put_again wants t) ∙ ap (after_try (λ _. wants)) free_now,
+        )
 
       module _ (held : (w.word l).owner ≢ None) where
         held_now_is : true ≡ is_some (w.word l).owner
@@ -168,29 +170,19 @@ module _ {V : Type 0} (w : LockWorld V) where
 
         pub row_take_held : Aims (w.pass t) l → LockStep n m (part_of w) (Take t l) (Saw false)
             (part_of (record w { pass = put w.pass t (wanting (w.pass t) l) }))
-        row_take_held aims =
-            let then : Bool → LockPart = λ c. record {
-              locks = cond c (part_of w).locks (record (part_of w).locks
-                  { held = put (part_of w).locks.held l true; has = put (part_of w).locks.has l (put ((part_of w).locks.has l) t true) });
-              wants = put wants t (cond c (Some l) None);
-            } in (
-              (near, here, may_try aims),
-              ap (λ c. Saw (not c)) held_now_is,
-              (λ i. record {
-                locks = (part_of w).locks;
-                wants = wants_put t (wanting (w.pass t) l) w.spot (Some l) (ap (λ z. wants_of z (Some l)) (is_awake n m w ok t near up))
-                    (λ v ne. refl) i;
-              }) ∙ ap then held_now_is,
-            )
+        row_take_held aims = (
+          (near, here, may_try aims),
+          ap (λ c. Saw (not c)) held_now_is,
+          (λ i. record {
+            locks = (part_of w).locks;
+            wants = wants_put t (wanting (w.pass t) l) w.spot (Some l) (ap (λ z. wants_of z (Some l)) (is_awake n m w ok t near up))
+                (λ v ne. refl) i;
+          }) ∙ ap (after_try seeking) held_now_is,
+        )
 
         pub row_try_held : (w.pass t).aim ≡ None → LockStep n m (part_of w) (Try t l) (Saw false) (part_of w)
         row_try_held aim =
-            let then : Bool → LockPart = λ c. record {
-              locks = cond c (part_of w).locks (record (part_of w).locks
-                  { held = put (part_of w).locks.held l true; has = put (part_of w).locks.has l (put ((part_of w).locks.has l) t true) });
-              wants = wants;
-            } in
-            ((near, here, wants_now ∙ aim), ap (λ c. Saw (not c)) held_now_is, ap then held_now_is)
+            ((near, here, wants_now ∙ aim), ap (λ c. Saw (not c)) held_now_is, ap (after_try (λ _. wants)) held_now_is)
 
         pub row_mark : Aims (w.pass t) l → LockStep n m (part_of w) (Mark t l) Done
             (part_of (record w { word = put w.word l (record { owner = (w.word l).owner; parked = true }) }))

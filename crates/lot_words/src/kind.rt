@@ -1,8 +1,8 @@
 //! The kind of table that lock words make.
 use crate::keeps::Keeps;
 use crate::start::Start;
-use crate::views::{PassKnowledge, RootKnowledge};
-use lot_rights::{Kind, PassOf, RootOf};
+use crate::views::{LockPassView, LockRootView};
+use lot_rights::{Kind, Knowledge, PassOf, RootOf};
 use std::marker::PhantomData;
 
 /// Lock words: a word has the bits held and parked of its lock, and a slot has the lock's value. Contracts alone read
@@ -16,9 +16,9 @@ impl<V: Keeps> Kind for Locks<V> {
 
     type Slot = Option<V>;
 
-    type Pass = PassKnowledge<V>;
+    type Pass = Knowledge<LockPassView<V>>;
 
-    type Root = RootKnowledge;
+    type Root = Knowledge<LockRootView>;
 
     type Key = Start<V>;
 

@@ -10,9 +10,6 @@ use crate::words::LockWords;
 use lot_rights::{Numbered, word_of_key};
 use std::marker::Brand;
 
-/// A thread's word where no letter lies. Where one lies, the word is its token and 1.
-const NO_LETTER: u64 = 0;
-
 impl<V: Keeps> LockWords<V> {
     /// Posts the letter that the root owes, by one store, while the bucket of the lock is still locked.
     pub fn post(&self, root: LockRoot<V>, thread: usize, token: u32) -> LockRoot<V>
@@ -22,13 +19,7 @@ impl<V: Keeps> LockWords<V> {
         ensures posted { RootNotes root (paid_root root.own) (Posts root.key thread token) result }
     {
         let words = &self.words;
-        let letter = root.letter_of(thread);
-        words.store_root::<Brand, Numbered, (usize, u32)>(
-            root,
-            letter,
-            token as u64 + 1,
-            (thread, token),
-        )
+        words.post::<Brand, Numbered>(root, thread, token)
     }
 
     /// Collects the pass's letter, by one swap, and answers its token where a letter lay: 0 where the thread may try
@@ -41,12 +32,7 @@ impl<V: Keeps> LockWords<V> {
             (λ token. Collected V.Keeps pass token result.0) }
     {
         let words = &self.words;
-        let place = pass.letter();
-        let (pass, letter) = words.swap::<Brand, ()>(pass, place, NO_LETTER, ());
-        if letter == NO_LETTER {
-            return (pass, None);
-        }
-        (pass, Some((letter - 1) as u32))
+        words.collect::<Brand>(pass)
     }
 
     /// The lock's word as it was just now: bit 1 says held and bit 2 parked. It is an observation, of which nothing is

@@ -1,7 +1,6 @@
 //! What contracts see of the rights: what a pass knows of its locks and their values, and what a root knows of its
 //! line. No value of these types is made by running code.
 use std::collections::LinkedList;
-use std::marker::{Model, PhantomData};
 
 /// Of one lock, to one pass: not held, held, or held and found parked by `free`.
 pub enum Hold {
@@ -38,34 +37,6 @@ pub struct LockRootView {
     pub line: LinkedList<u64>,
     /// The thread and the token of the letter that is owed, if any.
     pub owes: Option<(u64, u64)>,
-}
-
-/// Names a `LockPassView` where a type is asked for. It has no fields, so the type of a table does not spell out what a
-/// pass knows.
-pub struct PassKnowledge<V> {
-    of: PhantomData<V>,
-}
-
-impl<V> Model for PassKnowledge<V> {
-    ghost use Rattle.lot_words.specs.declared.views.LockPassView.{LockPassView};
-    ghost use Rattle.lot_words.specs.Rule.{no_pass};
-
-    ghost Value = { LockPassView V };
-
-    ghost view = { λ _. no_pass };
-}
-
-/// Names a `LockRootView` where a type is asked for. It has no fields, so the type of a table does not spell out what a
-/// root knows.
-pub struct RootKnowledge;
-
-impl Model for RootKnowledge {
-    ghost use Rattle.lot_words.specs.declared.views.LockRootView.{LockRootView};
-    ghost use Rattle.lot_words.specs.Rule.{no_root};
-
-    ghost Value = { LockRootView };
-
-    ghost view = { λ _. no_root };
 }
 
 /// How many threads and locks a table has.

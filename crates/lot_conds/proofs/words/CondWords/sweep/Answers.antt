@@ -27,9 +27,8 @@ load_both-pass-requires-clause-names c n p' q' told u h =
 
 pub returns-clause-event : goal.returns-clause-event
 returns-clause-event c =
-    let p = c.args.pass in
-    let q = c.args.root in
-    subst (λ n. Notes p (swept_pass p.own q.key n) (Makes (Sweep p.thread q.key) (Count n)) c.load_both-pass.result.0) c.requires.taken
+    subst (λ n. Notes c.args.pass (swept_pass c.args.pass.own c.args.root.key n)
+    (Makes (Sweep c.args.pass.thread c.args.root.key) (Count n)) c.load_both-pass.result.0) c.requires.taken
     c.load_both-pass.ensures.told.0
 
 pub returns-clause-root : goal.returns-clause-root

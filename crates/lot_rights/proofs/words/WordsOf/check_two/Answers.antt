@@ -1,20 +1,17 @@
 use Rattle.std.proofs.Common.{◌≡◌, [], ◌∷◌, ap, ◌∙◌}
 use Rattle.lot_rights.specs.declared.views.Right.TheVariants.{Pass}
 use Rattle.lot_rights.specs.Shown.{PassShown, right_of_pass}
-use Rattle.lot_rights.proofs.Joining.{joins_rule, parts_two}
+use Rattle.lot_rights.proofs.Joining.{joins_seats, parts_two}
 use Rattle.lot_rights.proofs.Ready.{of_table, ready_two, one_shown, two_joined}
 use Rattle.lot_rights.proofs.words.WordsOf.check_two.Given.{Over}
 use Rattle.lot_rights.proofs.words.WordsOf.check_two.Goals.{After-join_seat}
 use Rattle.lot_rights.proofs.words.WordsOf.check_two.Goals as goal
 
 pub join_seat-requires : goal.join_seat-requires
-join_seat-requires g c = (
-  of_table (λ (x : PassShown _). x.table) c.self.view_is c.first.view_is c.requires.table.0,
-  of_table (λ (x : PassShown _). x.table) c.self.view_is c.second.view_is c.requires.table.1,
-  ap (λ m. m.1) c.second.inside.one,
-  c.self.inside.some,
-  joins_rule (g.K.Kind.meaning c.self.inside.table.shared.key) _ _ _ _,
-)
+join_seat-requires g c =
+    joins_seats (g.K.Kind.meaning c.self.inside.table.shared.key) _ _ _ _ _ _ _ _
+    (of_table (λ (x : PassShown _). x.table) c.self.view_is c.first.view_is c.requires.table.0)
+    (of_table (λ (x : PassShown _). x.table) c.self.view_is c.second.view_is c.requires.table.1) c.second.inside.one c.self.inside.some
 
 -- the seat that has both passes
 here : (g : Over) (c : After-join_seat g) → c.join_seat.new.seat.table_id ≡ c.self.inside.table.shared.table_id

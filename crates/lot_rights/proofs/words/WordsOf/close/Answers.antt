@@ -1,4 +1,4 @@
-use Rattle.std.proofs.Common.{◌≡◌, [], ◌∷◌, ◌++◌, reverse, refl, sym, ap, subst, ◌∙◌}
+use Rattle.std.proofs.Common.{◌≡◌, [], ◌++◌, reverse, refl, sym, ap, subst, ◌∙◌}
 use Rattle.std.specs.List.{All}
 use Rattle.std.specs.Slots.{slots_items}
 use Rattle.atomic_table.specs.Seated.{TableId}
@@ -7,39 +7,42 @@ use Rattle.lot_rights.specs.Shown.{PassShown, RootShown, WordsShown, right_of_pa
 use Rattle.lot_rights.specs.Closing.{roots_in, Ended}
 use Rattle.lot_rights.proofs.Gathers.{all_popped, gathered}
 use Rattle.lot_rights.proofs.Closes.{ends}
+use Rattle.lot_rights.proofs.Ready.{of_table}
+use Rattle.lot_rights.proofs.words.WordsOf.close.Given.{Over}
+use Rattle.lot_rights.proofs.words.WordsOf.close.Goals.{After-take_last}
 use Rattle.lot_rights.proofs.words.WordsOf.close.Goals as goal
 
 pub take_last-requires : goal.take_last-requires
 take_last-requires g c = c.requires.some
 
-pub gather_passes-seat-requires-clause-table : goal.gather_passes-seat-requires-clause-table
-gather_passes-seat-requires-clause-table g c =
-    let last =
+-- the other passes are of the table too, and so is the one that is taken first
+passes_here : (g : Over) (c : After-take_last g)
+    → All (λ (p : PassShown _). p.table ≡ c.args.self.table) c.take_last.new.self.items × (c.take_last.result.table ≡ c.args.self.table)
+passes_here g c =
     all_popped (λ (p : PassShown _). p.table ≡ c.args.self.table) c.args.passes.items c.take_last.new.self.items c.take_last.result
-    c.take_last.ensures.items c.requires.table.0 in (
-      ap (λ (p : PassShown _). p.table) c.seat.view_is ∙ last.1
-          ∙ sym (ap (λ (w : WordsShown _). w.table) c.self.view_is),
-      c.self.inside.some,
-    )
+    c.take_last.ensures.items c.requires.table.0
 
-pub gather_passes-seat-requires-clause-all : goal.gather_passes-seat-requires-clause-all
-gather_passes-seat-requires-clause-all g c =
-    let last =
-    all_popped (λ (p : PassShown _). p.table ≡ c.args.self.table) c.args.passes.items c.take_last.new.self.items c.take_last.result
-    c.take_last.ensures.items c.requires.table.0 in
+pub gather-seat-requires-clause-table : goal.gather-seat-requires-clause-table
+gather-seat-requires-clause-table g c = (
+  of_table (λ x. x) c.self.view_is c.seat-seat.ensures.there (passes_here g (goal.at.gather-seat-requires-clause-table g c).After-take_last).1,
+  c.self.inside.some,
+)
+
+pub gather-seat-requires-clause-all : goal.gather-seat-requires-clause-all
+gather-seat-requires-clause-all g c =
     subst (λ (t : TableId). All (λ (p : PassShown _). p.table ≡ t) c.take_last.new.self.items)
-    (sym (ap (λ (w : WordsShown _). w.table) c.self.view_is)) last.0
+    (sym (ap (λ (w : WordsShown _). w.table) c.self.view_is)) (passes_here g (goal.at.gather-seat-requires-clause-all g c).After-take_last).0
 
-pub gather_roots-seat-requires-clause-table : goal.gather_roots-seat-requires-clause-table
-gather_roots-seat-requires-clause-table g c = (c.gather_passes-seat.ensures.table, c.self.inside.some)
+pub gather-seat-requires-2-clause-table : goal.gather-seat-requires-2-clause-table
+gather-seat-requires-2-clause-table g c = (c.gather-seat.ensures.table, c.self.inside.some)
 
-pub gather_roots-seat-requires-clause-all : goal.gather_roots-seat-requires-clause-all
-gather_roots-seat-requires-clause-all g c =
+pub gather-seat-requires-2-clause-all : goal.gather-seat-requires-2-clause-all
+gather-seat-requires-2-clause-all g c =
     subst (λ (t : TableId). All (λ (q : RootShown _). q.table ≡ t) c.args.roots.items)
     (sym (ap (λ (w : WordsShown _). w.table) c.self.view_is)) c.requires.table.1
 
 pub close_with-requires : goal.close_with-requires
-close_with-requires g c = c.gather_roots-seat.ensures.table
+close_with-requires g c = c.gather-seat-2.ensures.table
 
 pub returns-clause-full : goal.returns-clause-full
 returns-clause-full g c = (
@@ -53,17 +56,16 @@ pub returns-clause-ended : goal.returns-clause-ended
 returns-clause-ended g c =
     let passes = c.args.passes.items in
     let roots = c.args.roots.items in
-    let own = c.seat.inside.seat.me.0 in
-    let first : own ≡ Pass (right_of_pass c.take_last.result) ∷ [] =
-    subst (λ (x : PassShown _). own ≡ Pass (right_of_pass x) ∷ []) c.seat.view_is (ap (λ m. m.0) c.seat.inside.one) in
-    let all = c.gather_roots-seat.ensures.rights ∙ ap (λ v. v ++ roots_in (reverse roots))
-    (c.gather_passes-seat.ensures.rights ∙ gathered
-    (λ (p : PassShown _). Pass (right_of_pass p)) [] own own passes c.take_last.new.self.items c.take_last.result refl first
+    let own = c.seat-seat.result.me.0 in
+    let all = c.gather-seat-2.ensures.rights ∙ ap (λ v. v ++ roots_in (reverse roots))
+    (c.gather-seat.ensures.rights ∙ gathered
+    (λ (p : PassShown _). Pass (right_of_pass p)) [] own own passes c.take_last.new.self.items c.take_last.result refl
+    (ap (λ m. m.0) c.seat-seat.ensures.alone)
     c.take_last.ensures.items) in
     let last = c.close_with.ensures.values.2 in
     subst
     (λ (w : WordsShown _). Ended (g.K.Kind.meaning w.key) passes roots (slots_items c.close_with.result.words)
     (slots_items c.close_with.result.slots)) c.self.view_is
-    (ends (g.K.Kind.meaning c.self.inside.table.shared.key) last.0 last.1.0 c.gather_roots-seat.result.id c.gather_roots-seat.result.me.0
+    (ends (g.K.Kind.meaning c.self.inside.table.shared.key) last.0 last.1.0 c.gather-seat-2.result.id c.gather-seat-2.result.me.0
     last.1.1 passes roots all
     (slots_items c.close_with.result.words) (slots_items c.close_with.result.slots) last.2 last.3 last.4)

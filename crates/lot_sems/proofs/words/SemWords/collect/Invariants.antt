@@ -1,5 +1,5 @@
-use Rattle.lot_sems.proofs.Roots.{Collecting}
+use Rattle.lot_sems.specs.Calls.{CollectedBy}
 use Rattle.lot_sems.proofs.words.SemWords.collect.Given as goal
 
-abbrev pub ghosts-swap : goal.ghosts-swap
-ghosts-swap a = record { table = a.pass.table; then = Collecting a.pass }
+abbrev pub ghosts-collect : goal.ghosts-collect
+ghosts-collect a = record { table = a.pass.table; then = CollectedBy a.pass }

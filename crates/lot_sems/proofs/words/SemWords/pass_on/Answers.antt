@@ -31,11 +31,9 @@ fetch_add_both-pass-requires-clause-names c n p' q' told u h =
 
 pub returns-clause-entry : goal.returns-clause-entry
 returns-clause-entry c =
-    let p = c.args.pass in
-    let q = c.args.root in
     subst
-    (λ o. Notes p (one_permit_less p.own q.key)
-    (Makes (SemPass p.thread q.key c.args.more) (Sleeper o)) c.fetch_add_both-pass.result.0) c.requires.first.0
+    (λ o. Notes c.args.pass (one_permit_less c.args.pass.own c.args.root.key)
+    (Makes (SemPass c.args.pass.thread c.args.root.key c.args.more) (Sleeper o)) c.fetch_add_both-pass.result.0) c.requires.first.0
     c.fetch_add_both-pass.ensures.told.0
 
 pub returns-clause-root : goal.returns-clause-root

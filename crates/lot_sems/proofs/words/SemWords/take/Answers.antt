@@ -1,19 +1,11 @@
-use Rattle.lot_rights.specs.Layout.{word_at}
-use Rattle.lot_rights.proofs.Places.{pass_at_word}
-use Rattle.lot_sems.specs.World.{IsAmong}
-use Rattle.lot_sems.specs.Rule.{meaning}
-use Rattle.lot_sems.specs.Shown.{SemWordsShown}
 use Rattle.lot_sems.specs.Calls.{MayTake}
-use Rattle.lot_sems.proofs.Turns.{Seeks, seeks, seeks_empty, seeks_left, after_look, taken}
+use Rattle.lot_sems.proofs.Turns.{at_sem, Seeks, seeks, seeks_empty, seeks_left, after_look, taken}
 use Rattle.lot_sems.proofs.words.SemWords.take.Goals as goal
 
 pub load-pass-requires-clause-allows : goal.load-pass-requires-clause-allows
 load-pass-requires-clause-allows c =
-    let key = c.args.key in
-    pass_at_word (λ (z : SemWordsShown). meaning z.size) c.self.view_is (λ z. IsAmong z.size key) c.requires.key
-    (word_at key) c.word_of_key.ensures
-    (λ n. n) c.args.pass (Seeks c.args.pass key)
-    (λ z among. seeks z.size c.args.pass key among c.requires.may)
+    at_sem c.self.view_is c.requires.key c.word_of_key.ensures (λ n. n) c.args.pass (Seeks c.args.pass c.args.key)
+    (λ z among. seeks z.size c.args.pass c.args.key among c.requires.may)
 
 pub take_from-requires-clause-may : goal.take_from-requires-clause-may
 take_from-requires-clause-may c =
@@ -30,9 +22,6 @@ returns-then-seen-lt-PERMIT-clause-entries c =
 
 pub returns-clause-entries : goal.returns-clause-entries
 returns-clause-entries c =
-    let p = c.args.pass in
-    let r = c.load-pass.result.0 in
-    let key = c.args.key in
-    let seen = c.load-pass.result.1 in
-    taken p r key seen (seeks_left p key seen r c.if-seen-lt-PERMIT.false c.load-pass.ensures.told) c.if-seen-lt-PERMIT.false
-    c.take_from.result.1 c.take_from.result.0 c.take_from.ensures.entry
+    taken c.args.pass c.load-pass.result.0 c.args.key c.load-pass.result.1
+    (seeks_left c.args.pass c.args.key c.load-pass.result.1 c.load-pass.result.0 c.if-seen-lt-PERMIT.false c.load-pass.ensures.told)
+    c.if-seen-lt-PERMIT.false c.take_from.result.1 c.take_from.result.0 c.take_from.ensures.entry

@@ -1,20 +1,12 @@
 use Rattle.std.proofs.Common.{inl}
-use Rattle.lot_rights.specs.Layout.{word_at}
-use Rattle.lot_rights.proofs.Places.{pass_at_word}
-use Rattle.lot_sems.specs.World.{IsAmong}
-use Rattle.lot_sems.specs.Rule.{meaning}
-use Rattle.lot_sems.specs.Shown.{SemWordsShown}
 use Rattle.lot_sems.specs.Calls.{MayTake, Found}
-use Rattle.lot_sems.proofs.Turns.{looks, after_look, tried}
+use Rattle.lot_sems.proofs.Turns.{at_sem, looks, after_look, tried}
 use Rattle.lot_sems.proofs.words.SemWords.try_take.Goals as goal
 
 pub load-pass-requires-clause-allows : goal.load-pass-requires-clause-allows
 load-pass-requires-clause-allows c =
-    let key = c.args.key in
-    pass_at_word (λ (z : SemWordsShown). meaning z.size) c.self.view_is (λ z. IsAmong z.size key) c.requires.key
-    (word_at key) c.word_of_key.ensures
-    (λ n. n) c.args.pass (Found c.args.pass key)
-    (λ z. looks z.size c.args.pass key)
+    at_sem c.self.view_is c.requires.key c.word_of_key.ensures (λ n. n) c.args.pass (Found c.args.pass c.args.key)
+    (λ z. looks z.size c.args.pass c.args.key)
 
 pub take_from-requires-clause-may : goal.take_from-requires-clause-may
 take_from-requires-clause-may c =

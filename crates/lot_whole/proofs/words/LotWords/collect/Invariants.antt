@@ -1,5 +1,5 @@
-use Rattle.lot_whole.proofs.Letters.{Collecting}
+use Rattle.lot_whole.proofs.Letters.{CollectedHere}
 use Rattle.lot_whole.proofs.words.LotWords.collect.Given as goal
 
-abbrev pub ghosts-swap : goal.ghosts-swap
-ghosts-swap g a = record { table = a.pass.table; then = Collecting g.V.Keeps a.pass }
+abbrev pub ghosts-collect : goal.ghosts-collect
+ghosts-collect g a = record { table = a.pass.table; then = CollectedHere g.V.Keeps a.pass }

@@ -3,33 +3,27 @@ use Rattle.std.proofs.lemmas.Nat.{and_mask}
 use prog.Atomic.{either}
 use Rattle.lot_events.specs.declared.events.Event.TheVariants.{SemFree}
 use Rattle.lot_sems.specs.Calls.{one_permit_less, IsUnmarked}
-use Rattle.lot_rights.specs.Layout.{word_at}
-use Rattle.lot_rights.proofs.Places.{pass_at_word}
-use Rattle.lot_whole.specs.Family.{sem, IsKeyIn}
-use Rattle.lot_whole.specs.Shown.{lot_of}
+use Rattle.lot_whole.specs.Family.{sem}
 use Rattle.lot_whole.specs.Standing.{MayGive}
 use Rattle.lot_whole.specs.Calls.{FindsOf}
 use Rattle.lot_whole.proofs.Seekers.{Swaps, looks, frees, after_look, freed}
+use Rattle.lot_whole.proofs.Names.{at_word_of}
 use Rattle.lot_whole.proofs.words.LotWords.free_permit.Goals as goal
 
 pub load-pass-requires-clause-allows : goal.load-pass-requires-clause-allows
 load-pass-requires-clause-allows g c =
-    let key = c.args.key in
-    pass_at_word (lot_of g.V.Keeps) c.self.view_is (λ z. IsKeyIn z.size sem key) c.requires.key (word_at key) c.word_of_key-word.ensures
-    (λ n. n) c.args.pass (FindsOf c.args.pass key)
-    (λ z. looks g.V.Keeps z.size z.values c.args.pass key)
+    at_word_of g.V.Keeps sem c.self.view_is c.requires.key c.word_of_key-word.ensures (λ n. n) c.args.pass (FindsOf c.args.pass c.args.key)
+    (λ z. looks g.V.Keeps z.size z.values c.args.pass c.args.key)
 
 pub compare_exchange-pass-requires-clause-allows : goal.compare_exchange-pass-requires-clause-allows
 compare_exchange-pass-requires-clause-allows g c =
-    let key = c.args.key in
-    let p = c.args.pass in
     let r = c.load-pass.result.0 in
     let seen = c.load-pass.result.1 in
-    let may = after_look p r key seen c.load-pass.ensures.told (λ own. MayGive own key) c.requires.may in
+    let may = after_look c.args.pass r c.args.key seen c.load-pass.ensures.told (λ own. MayGive own c.args.key) c.requires.may in
     let clear : IsUnmarked seen = omega (arith, and_mask seen 1, c.if-seen-ne0.false) in
-    pass_at_word (lot_of g.V.Keeps) c.self.view_is (λ z. IsKeyIn z.size sem key) c.requires.key (word_at key) c.word_of_key-word.ensures
-    (λ n. either (n == seen) ((seen + 2) % 2 ^ 64) n) r (Swaps r key (one_permit_less r.own.sems key) (SemFree r.thread key) seen)
-    (λ z among. frees g.V.Keeps z.size z.values r key among may seen clear)
+    at_word_of g.V.Keeps sem c.self.view_is c.requires.key c.word_of_key-word.ensures (λ n. either (n == seen) ((seen + 2) % 2 ^ 64) n) r
+    (Swaps r c.args.key (one_permit_less r.own.sems c.args.key) (SemFree r.thread c.args.key) seen)
+    (λ z among. frees g.V.Keeps z.size z.values r c.args.key among may seen clear)
 
 pub returns-then-seen-ne0-clause-entries : goal.returns-then-seen-ne0-clause-entries
 returns-then-seen-ne0-clause-entries g c =

@@ -1,16 +1,12 @@
-use Rattle.lot_rights.specs.Layout.{word_at}
-use Rattle.lot_rights.proofs.Places.{pass_at_word}
-use Rattle.lot_whole.specs.Family.{cond, IsKeyIn}
-use Rattle.lot_whole.specs.Shown.{lot_of}
+use Rattle.lot_whole.specs.Family.{cond}
 use Rattle.lot_whole.proofs.Carries.{Lowers, lowers}
+use Rattle.lot_whole.proofs.Names.{at_word_of}
 use Rattle.lot_whole.proofs.words.LotWords.lower.Goals as goal
 
 pub store-requires-clause-allows : goal.store-requires-clause-allows
 store-requires-clause-allows g c =
-    let key = c.args.key in
-    pass_at_word (lot_of g.V.Keeps) c.self.view_is (λ z. IsKeyIn z.size cond key) c.requires.key (word_at key) c.word_of_key.ensures
-    (λ _. 0) c.args.pass (λ _. Lowers c.args.pass key)
-    (λ z here. lowers g.V.Keeps z.size z.values c.args.pass key here c.requires.idle)
+    at_word_of g.V.Keeps cond c.self.view_is c.requires.key c.word_of_key.ensures (λ _. 0) c.args.pass (λ _. Lowers c.args.pass c.args.key)
+    (λ z here. lowers g.V.Keeps z.size z.values c.args.pass c.args.key here c.requires.idle)
 
 pub returns-clause-event : goal.returns-clause-event
 returns-clause-event g c = c.store.ensures.told

@@ -3,11 +3,6 @@ use Rattle.lot_core.specs.Steps.{first}
 use Rattle.lot_events.specs.declared.events.Event.TheVariants.{Pass}
 use Rattle.lot_events.specs.declared.events.Seen.TheVariants.{Sleeper}
 use Rattle.lot_rights.specs.declared.views.Access.TheVariants.{Makes}
-use Rattle.lot_rights.specs.Shown.{RootShown}
-use Rattle.lot_rights.specs.Layout.{word_at}
-use Rattle.lot_rights.specs.Steps.{AllowsBoth}
-use Rattle.lot_rights.proofs.Places.{both_at_place}
-use Rattle.lot_whole.specs.declared.views.LotRootView.{LotRootView}
 use Rattle.lot_whole.specs.Rule.{size_of, meaning}
 use Rattle.lot_words.specs.Calls.{letting_go, passed_root, word_left}
 use Rattle.lot_words.proofs.Names.{pass_names}
@@ -15,47 +10,35 @@ use Rattle.lot_whole.specs.Family.{lock}
 use Rattle.lot_whole.specs.Lifts.{whole_root}
 use Rattle.lot_whole.specs.Calls.{NotesIn, lock_of}
 use Rattle.lot_whole.proofs.Carries.{Passes, passes_store, passes_load}
-use Rattle.lot_whole.proofs.Names.{lock_root, lock_named}
+use Rattle.lot_whole.proofs.Names.{both_of_kind, lock_root, lock_named}
 use Rattle.lot_whole.proofs.words.LotWords.pass_on.Goals as goal
 
 pub load_both-pass-requires-clause-allows : goal.load_both-pass-requires-clause-allows
 load_both-pass-requires-clause-allows g c =
     let start = c.self.inside.words.key in
-    let p = c.args.pass in
-    let q = c.args.root in
-    both_at_place (meaning g.V.Keeps start) (word_at q.key) _ c.word-word.ensures.is (λ n. n) p q
-    (λ _. Passes p (lock_of q) true c.args.more)
-    (subst (λ r. AllowsBoth (meaning g.V.Keeps start) (word_at q.key) (λ n. n) p r (λ _. Passes p (lock_of q) true c.args.more))
-    (lock_root q c.requires.lock)
-    (passes_load g.V.Keeps (size_of start) start.values.value.items p
-    (lock_of q) c.requires.may c.requires.holds c.requires.lies.0 c.requires.lies.1 c.requires.first.1 c.args.more
-    (λ none_first. let e : true ≡ false = sym c.if-fair.true ∙ c.requires.fair (sym c.requires.first.0 ∙ none_first) in cc)))
+    both_of_kind (meaning g.V.Keeps start) c.word-word.ensures.is (λ n. n) c.args.pass
+    (lock_root c.args.root c.requires.lock) (λ _. Passes c.args.pass (lock_of c.args.root) true c.args.more)
+    (passes_load g.V.Keeps (size_of start) start.values.value.items c.args.pass
+    (lock_of c.args.root) c.requires.may c.requires.holds c.requires.lies.0 c.requires.lies.1 c.requires.first.1 c.args.more
+    (λ none_first. let e : true ≡ false = sym c.if-fair.true ∙ c.requires.fair (sym c.requires.first.0 ∙ none_first) in cc))
 
 pub load_both-pass-requires-clause-names : goal.load_both-pass-requires-clause-names
 load_both-pass-requires-clause-names g c n p' q' told u h =
-    lock_named c.args.root.own q'.own u (u ≡ c.args.pass.thread) c.requires.lock _
-    (ap (λ (z : RootShown LotRootView). z.own) told.1)
-    (λ named. inl (pass_names (lock_of c.args.root).own _ true u refl named)) h
+    lock_named c.args.root q' u _ c.requires.lock _ told.1 (λ named. inl (pass_names (lock_of c.args.root).own _ true u refl named)) h
 
 pub store_both-requires-clause-allows : goal.store_both-requires-clause-allows
 store_both-requires-clause-allows g c =
     let start = c.self.inside.words.key in
-    let p = c.args.pass in
-    let q = c.args.root in
-    both_at_place (meaning g.V.Keeps start) (word_at q.key) _ c.word-word.ensures.is (λ _. c.word_after-left.result) p q
-    (λ _. Passes p (lock_of q) false c.args.more)
-    (subst (λ r. AllowsBoth (meaning g.V.Keeps start) (word_at q.key) (λ _. c.word_after-left.result) p r
-    (λ _. Passes p (lock_of q) false c.args.more)) (lock_root q c.requires.lock)
-    (passes_store g.V.Keeps (size_of start) start.values.value.items p
-    (lock_of q) c.requires.may c.requires.holds c.requires.lies.0 c.requires.lies.1 c.requires.first.1 c.args.more
+    both_of_kind (meaning g.V.Keeps start) c.word-word.ensures.is (λ _. c.word_after-left.result) c.args.pass
+    (lock_root c.args.root c.requires.lock) (λ _. Passes c.args.pass (lock_of c.args.root) false c.args.more)
+    (passes_store g.V.Keeps (size_of start) start.values.value.items c.args.pass
+    (lock_of c.args.root) c.requires.may c.requires.holds c.requires.lies.0 c.requires.lies.1 c.requires.first.1 c.args.more
     (c.requires.more c.if-fair.false) c.word_after-left.result
-    (c.word_after-left.ensures ∙ ap (λ o. word_left o c.args.more) (sym c.requires.first.0))))
+    (c.word_after-left.ensures ∙ ap (λ o. word_left o c.args.more) (sym c.requires.first.0)))
 
 pub store_both-requires-clause-names : goal.store_both-requires-clause-names
 store_both-requires-clause-names g c n p' q' told u h =
-    lock_named c.args.root.own q'.own u (u ≡ c.args.pass.thread) c.requires.lock _
-    (ap (λ (z : RootShown LotRootView). z.own) told.1)
-    (λ named. inl (pass_names (lock_of c.args.root).own _ false u refl named)) h
+    lock_named c.args.root q' u _ c.requires.lock _ told.1 (λ named. inl (pass_names (lock_of c.args.root).own _ false u refl named)) h
 
 pub returns-then-fair-clause-event : goal.returns-then-fair-clause-event
 returns-then-fair-clause-event g c y lies =

@@ -3,6 +3,6 @@ use Rattle.lot_rights.specs.Steps.{RootNotes}
 use Rattle.lot_whole.specs.Calls.{paid}
 use Rattle.lot_whole.proofs.words.LotWords.post.Given as goal
 
-abbrev pub ghosts-store_root : goal.ghosts-store_root
-ghosts-store_root g a = record
-    { table = a.root.table; then = λ n. RootNotes a.root (paid a.root.own a._about.0) (Posts a.root.key a._about.0 a._about.1) }
+abbrev pub ghosts-post : goal.ghosts-post
+ghosts-post g a = record
+    { table = a.root.table; then = λ n. RootNotes a.root (paid a.root.own a.thread) (Posts a.root.key a.thread a.token) }

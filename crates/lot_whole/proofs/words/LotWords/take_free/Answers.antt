@@ -1,9 +1,9 @@
-use Rattle.std.proofs.Common.{◌==◌, subst, ◌<◌}
+use Rattle.std.proofs.Common.{◌==◌, ◌<◌}
 use prog.Atomic.{either}
 use Rattle.lot_rights.specs.Layout.{word_at}
 use Rattle.lot_rights.proofs.Places.{pass_at_word}
 use Rattle.lot_whole.specs.Shown.{lot_of}
-use Rattle.lot_whole.proofs.Carries.{TakesFree, takes_free, missed_free}
+use Rattle.lot_whole.proofs.Carries.{TakesFree, takes_free, got_free, missed_free}
 use Rattle.lot_whole.proofs.words.LotWords.take_free.Goals as goal
 
 pub compare_exchange-requires-clause-allows : goal.compare_exchange-requires-clause-allows
@@ -14,8 +14,7 @@ compare_exchange-requires-clause-allows g c =
     (λ z here. takes_free g.V.Keeps z.size z.values c.args.pass key here c.requires.may)
 
 pub returns-clause-got : goal.returns-clause-got
-returns-clause-got g c is_free =
-    subst (λ n. TakesFree g.V.Keeps c.args.pass c.args.key n c.compare_exchange.result.0) is_free c.compare_exchange.ensures.told
+returns-clause-got g c free = got_free g.V.Keeps c.args.pass c.args.key _ c.compare_exchange.result.0 free c.compare_exchange.ensures.told
 
 pub returns-clause-missed : goal.returns-clause-missed
 returns-clause-missed g c other = missed_free g.V.Keeps c.args.pass c.args.key _ c.compare_exchange.result.0 other

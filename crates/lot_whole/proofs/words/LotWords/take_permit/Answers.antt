@@ -1,17 +1,13 @@
-use Rattle.lot_rights.specs.Layout.{word_at}
-use Rattle.lot_rights.proofs.Places.{pass_at_word}
-use Rattle.lot_whole.specs.Family.{sem, IsKeyIn}
-use Rattle.lot_whole.specs.Shown.{lot_of}
+use Rattle.lot_whole.specs.Family.{sem}
 use Rattle.lot_whole.specs.Standing.{MayTakePermit}
 use Rattle.lot_whole.proofs.Seekers.{Seeks, seeks, seeks_empty, seeks_left, after_look, taken}
+use Rattle.lot_whole.proofs.Names.{at_word_of}
 use Rattle.lot_whole.proofs.words.LotWords.take_permit.Goals as goal
 
 pub load-pass-requires-clause-allows : goal.load-pass-requires-clause-allows
 load-pass-requires-clause-allows g c =
-    let key = c.args.key in
-    pass_at_word (lot_of g.V.Keeps) c.self.view_is (λ z. IsKeyIn z.size sem key) c.requires.key (word_at key) c.word_of_key.ensures
-    (λ n. n) c.args.pass (Seeks c.args.pass key)
-    (λ z among. seeks g.V.Keeps z.size z.values c.args.pass key among c.requires.may)
+    at_word_of g.V.Keeps sem c.self.view_is c.requires.key c.word_of_key.ensures (λ n. n) c.args.pass (Seeks c.args.pass c.args.key)
+    (λ z among. seeks g.V.Keeps z.size z.values c.args.pass c.args.key among c.requires.may)
 
 pub take_from-requires-clause-may : goal.take_from-requires-clause-may
 take_from-requires-clause-may g c =
@@ -28,9 +24,6 @@ returns-then-seen-lt-PERMIT-clause-entries g c =
 
 pub returns-clause-entries : goal.returns-clause-entries
 returns-clause-entries g c =
-    let p = c.args.pass in
-    let r = c.load-pass.result.0 in
-    let key = c.args.key in
-    let seen = c.load-pass.result.1 in
-    taken p r key seen (seeks_left p key seen r c.if-seen-lt-PERMIT.false c.load-pass.ensures.told) c.if-seen-lt-PERMIT.false
-    c.take_from.result.1 c.take_from.result.0 c.take_from.ensures.entry
+    taken c.args.pass c.load-pass.result.0 c.args.key c.load-pass.result.1
+    (seeks_left c.args.pass c.args.key c.load-pass.result.1 c.load-pass.result.0 c.if-seen-lt-PERMIT.false c.load-pass.ensures.told)
+    c.if-seen-lt-PERMIT.false c.take_from.result.1 c.take_from.result.0 c.take_from.ensures.entry

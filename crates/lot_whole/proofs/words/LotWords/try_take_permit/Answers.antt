@@ -1,18 +1,14 @@
-use Rattle.lot_rights.specs.Layout.{word_at}
-use Rattle.lot_rights.proofs.Places.{pass_at_word}
-use Rattle.lot_whole.specs.Family.{sem, IsKeyIn}
-use Rattle.lot_whole.specs.Shown.{lot_of}
+use Rattle.lot_whole.specs.Family.{sem}
 use Rattle.lot_whole.specs.Standing.{MayTakePermit}
 use Rattle.lot_whole.specs.Calls.{FindsOf}
 use Rattle.lot_whole.proofs.Seekers.{looks, after_look, idle_takes, tried}
+use Rattle.lot_whole.proofs.Names.{at_word_of}
 use Rattle.lot_whole.proofs.words.LotWords.try_take_permit.Goals as goal
 
 pub load-pass-requires-clause-allows : goal.load-pass-requires-clause-allows
 load-pass-requires-clause-allows g c =
-    let key = c.args.key in
-    pass_at_word (lot_of g.V.Keeps) c.self.view_is (λ z. IsKeyIn z.size sem key) c.requires.key (word_at key) c.word_of_key.ensures
-    (λ n. n) c.args.pass (FindsOf c.args.pass key)
-    (λ z. looks g.V.Keeps z.size z.values c.args.pass key)
+    at_word_of g.V.Keeps sem c.self.view_is c.requires.key c.word_of_key.ensures (λ n. n) c.args.pass (FindsOf c.args.pass c.args.key)
+    (λ z. looks g.V.Keeps z.size z.values c.args.pass c.args.key)
 
 pub take_from-requires-clause-may : goal.take_from-requires-clause-may
 take_from-requires-clause-may g c =

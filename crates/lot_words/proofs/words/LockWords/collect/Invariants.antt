@@ -1,5 +1,5 @@
-use Rattle.lot_words.proofs.Collecting.{Collecting}
+use Rattle.lot_words.specs.Calls.{CollectedBy}
 use Rattle.lot_words.proofs.words.LockWords.collect.Given as goal
 
-abbrev pub ghosts-swap : goal.ghosts-swap
-ghosts-swap g a = record { table = a.pass.table; then = Collecting g.V.Keeps a.pass }
+abbrev pub ghosts-collect : goal.ghosts-collect
+ghosts-collect g a = record { table = a.pass.table; then = CollectedBy g.V.Keeps a.pass }
