@@ -9,7 +9,7 @@ use Rattle.lot_bucket.specs.Agrees.{IsRootOf, AgreesOpen, Agrees}
 pub use Rattle.lot_places.proofs.Laws.{line_of-push_same, line_of-push_other, line_of-without_count_same, line_of-without_count_other}
 pub use Rattle.lot_places.proofs.Laws.{line_of-without_key_same, line_of-without_key_other}
 pub use Rattle.lot_places.proofs.Laws.{without_key-without_first, without_key_none, line_fits, first_of_line, root_at-with_same}
-pub use Rattle.lot_places.proofs.Laws.{root_at-with_other, has_key-with}
+pub use Rattle.lot_places.proofs.Laws.{root_at-with_other, has_key-with, with_root-with}
 
 module _ {R : Type 0} (view : R → KeyLine) where
   -- the root that is taken out of an open bucket that agrees

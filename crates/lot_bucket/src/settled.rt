@@ -91,8 +91,8 @@ impl<R: Root> Settled<R> {
         self.bucket.is_open() && self.number == number && self.size == size && self.keys == keys
     }
 
-    /// Whether the thread does not wait here, and there is room for it. The queue counts how often each thread waits,
-    /// so nobody walks along it.
+    /// Whether the thread does not wait here, and there is room for it. The queue is walked along only for a thread whose
+    /// number is not below the room, or which has been queued 255 times at once.
     pub fn has_place_for(&self, thread: usize) -> bool
         ensures { IsTrue result ↔ HasPlaceFor thread self.now.bucket }
     {

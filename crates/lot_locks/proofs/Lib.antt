@@ -1,6 +1,5 @@
 pub mod Adding
 pub mod Freed
 pub mod Letters
-pub mod Resting
 pub mod Seeking
 pub mod Waking

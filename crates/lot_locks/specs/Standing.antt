@@ -1,7 +1,7 @@
 -- How a pass stands between two accesses of a lock's word, and what the calls of a lock make of it.
 use Rattle.std.specs.Prelude.{◌≡◌, ◌≢◌, ℕ, ◌<◌, ◌++◌, Bool, true, false, List, [], ◌∷◌, Some}
 use Rattle.std.specs.List.{count_by}
-use Rattle.lot_events.specs.declared.events.Event.TheVariants.{Free, Mark}
+use Rattle.lot_events.specs.declared.events.Event.TheVariants.{Free, Mark, Park}
 use Rattle.lot_events.specs.declared.events.Seen.TheVariants.{Bool as Saw, Done}
 use Rattle.lot_rights.specs.declared.views.Access.{Access}
 use Rattle.lot_rights.specs.declared.views.Access.TheVariants.{Makes, Finds, Collects}
@@ -50,6 +50,10 @@ module _ {V : Type 0} where
 
   abbrev pub FindsAnother : LotStanding V → ℕ → LotStanding V → Type 0
   FindsAnother before l now = EndsWith (λ a. (word : ℕ) × (word ≢ 1) × (a ≡ Finds before.thread l word)) before now
+
+  -- it looked once more, and was not queued, since the lock was free or not marked
+  abbrev pub IsTurnedBack : LotStanding V → ℕ → LotStanding V → Type 0
+  IsTurnedBack before l now = now ≡ adding before (Makes (Park before.thread l) (Saw false) ∷ [])
 
   -- ---- releases
   -- the lock was found parked, and is owned still

@@ -85,7 +85,8 @@ fn take<V: Keeps, N: LotName<V>, C: Tally>(
 
 impl<V: Keeps + Send, N: LotName<V> + Send, C: Tally + Send> Sought<Locks> for LotScheme<V, N, C> {
     ghost use Rattle.std.specs.Prelude.{◌<◌};
-    ghost use Rattle.lot_locks.specs.Standing.{IsAsleepFor, Seeks, HasMarked, FindsAnother, letters_in};
+    ghost use Rattle.lot_locks.specs.Standing.{IsAsleepFor, Seeks, HasMarked, FindsAnother, IsTurnedBack};
+    ghost use Rattle.lot_locks.specs.Standing.{letters_in};
 
     ghost has = { λ s key. key < N.locks };
 
@@ -96,6 +97,8 @@ impl<V: Keeps + Send, N: LotName<V> + Send, C: Tally + Send> Sought<Locks> for L
     ghost changed = { FindsAnother };
 
     ghost marked = { HasMarked };
+
+    ghost refused = { IsTurnedBack };
 
     ghost woken = { λ p. letters_in p.did };
 

@@ -10,15 +10,14 @@ taken_all : (threads n : ℕ) (line : List ℕ) (taken : ℕ) (more : Bool) → 
     → TellsCount threads n line taken more → taken ≡ length line
 taken_all threads n line taken more all told = omega (arith, all, told.number, told.short)
 
-pub unparked_all : {R X : Type 0} (view : R → KeyLine) (threads k n : ℕ) (lies : Contents R → Type 0) (answers : R → ℕ → X × R → Type 0)
-    (result : X × ℕ) → n ≡ threads → UnparkedCount view threads k n lies (λ root taken more. answers root taken) result
-    → UnparkedAll view k answers result
-unparked_all view threads k n lies answers result all u =
+pub unparked_all : {R X : Type 0} (view : R → KeyLine) (threads k n : ℕ) (bucket : Contents R) (answers : R → ℕ → X × R → Type 0)
+    (result : X × ℕ) → n ≡ threads → UnparkedCount view threads k n bucket (λ root taken more. answers root taken) result
+    → UnparkedAll view k bucket answers result
+unparked_all view threads k n bucket answers result all u =
     record {
       root = u.root;
+      from = u.from;
       answer = u.answer;
-      named = u.named;
-      paid = u.paid;
       whole = taken_all threads n (view u.root).line result.1 u.more all u.told;
       called = u.called;
       same = u.same;

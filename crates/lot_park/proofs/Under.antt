@@ -15,8 +15,8 @@ use Rattle.lot_bucket.specs.Taking.{TakesOne, TakesFirst, fair_after}
 use Rattle.lot_bucket.specs.declared.taking.Moment.{Moment}
 use Rattle.lot_bucket.specs.declared.taking.Dequeued.{Dequeued}
 use Rattle.lot_bucket.proofs.Laws.{line_of-push_same, line_of-push_other, line_of-without_count_same, line_of-without_count_other}
-use Rattle.lot_bucket.proofs.Laws.{has_key-with, root_at-with_same, root_taken, agrees_again}
-use Rattle.lot_park.specs.Parking.{IsOpenFor, Tells, TellsCount, UnparkedOne, UnparkedCount}
+use Rattle.lot_bucket.proofs.Laws.{has_key-with, root_at-with_same, with_root-with, root_taken, agrees_again}
+use Rattle.lot_park.specs.Parking.{IsOpenFor, Tells, TellsCount}
 
 empty_of : (xs : List (ℕ × ℕ)) → not (length xs == 0) ≡ false → xs ≡ []
 empty_of [] e = refl
@@ -241,41 +241,13 @@ pub place_empty : {R : Type 0} (k : ℕ) (places out : List (ℕ × Option R)) �
     → out ≡ with_root k None places → root_at k out ≡ None
 place_empty k places out has same = ap (λ ps. root_at k ps) same ∙ root_at-with_same k None places has
 
--- what was said of one bucket is said of a bucket of its kind
-module _ {R X : Type 0} (view : R → KeyLine) (k : ℕ) (lies : Contents R → Type 0) (bucket : Contents R) (found : lies bucket) where
-  pub one_found : {T : Type 0} (moment : Moment) (answers : R → Dequeued → X × R × T → Type 0) (result : X × Dequeued)
-      → UnparkedOne view k moment (λ b. b ≡ bucket) answers result → UnparkedOne view k moment lies answers result
-  one_found moment answers result u =
-      record {
-        root = u.root;
-        answer = u.answer;
-        named = u.named;
-        paid = u.paid;
-        told = u.told;
-        called = u.called;
-        same = u.same;
-        bucket = u.bucket;
-        left = u.left;
-        found = subst lies (sym u.found) found;
-        lay = u.lay;
-        took = u.took;
-      }
-
-  pub count_found : (threads n : ℕ) (answers : R → ℕ → Bool → X × R → Type 0) (result : X × ℕ)
-      → UnparkedCount view threads k n (λ b. b ≡ bucket) answers result → UnparkedCount view threads k n lies answers result
-  count_found threads n answers result u =
-      record {
-        root = u.root;
-        more = u.more;
-        answer = u.answer;
-        named = u.named;
-        paid = u.paid;
-        told = u.told;
-        called = u.called;
-        same = u.same;
-        bucket = u.bucket;
-        left = u.left;
-        found = subst lies (sym u.found) found;
-        lay = u.lay;
-        took = u.took;
-      }
+-- A thread was queued or not while the root was out, and the root that came back was put in.
+pub parked_leaves : {R : Type 0} (k t : ℕ) (before out queued after : Contents R) (back : R) (joins : Bool)
+    → out ≡ record before { places = with_root k None before.places }
+    → queued ≡ record out { queue = joined joins t k out.queue }
+    → after ≡ record queued { places = with_root k (Some back) queued.places }
+    → after ≡ record before { places = with_root k (Some back) before.places; queue = joined joins t k before.queue }
+parked_leaves {R} k t before out queued after back joins took queues put =
+    put ∙ ap (λ (c : Contents R). record c { places = with_root k (Some back) c.places }) queues
+    ∙ ap (λ (c : Contents R). record c { places = with_root k (Some back) c.places; queue = joined joins t k c.queue }) took
+    ∙ ap (λ ps. record before { places = ps; queue = joined joins t k before.queue }) (with_root-with k (Some back) None before.places)

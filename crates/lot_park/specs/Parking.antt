@@ -3,7 +3,7 @@
 use Rattle.std.specs.Prelude.{◌≡◌, ℕ, zero, suc, ◌<◌, ◌≤◌, ◌==◌, ◌&&◌, cond, min, Bool, true, false, List, [], ◌∷◌, ◌++◌, take, drop}
 use Rattle.std.specs.Prelude.{length, Option, Some, None, IsSome, MatchBool}
 use Rattle.lot_bucket.specs.Queue.{first_of}
-use Rattle.lot_bucket.specs.Places.{has_key, root_at}
+use Rattle.lot_bucket.specs.Places.{has_key, root_at, with_root}
 use Rattle.lot_bucket.specs.Contents.{Contents}
 use Rattle.lot_bucket.specs.KeyLine.{KeyLine}
 use Rattle.lot_bucket.specs.Agrees.{Agrees}
@@ -125,70 +125,74 @@ module _ {R : Type 0} (view : R → KeyLine) where
       → ((view answer.1).key ≡ k) × ((view answer.1).line ≡ drop n (view root).line)
       × ((view answer.1).owes ≡ debts (take n (view root).line))
 
-  -- An unparking called its callback once, with some root of the key, and answers what that answered and what it was
-  -- told. The root lay in a bucket of the kind that is named, and what was told is the truth of that bucket.
-  pub record UnparkedOne {X T : Type 0} (k : ℕ) (moment : Moment) (lies : Contents R → Type 0) (answers : R → Dequeued → X × R × T → Type 0)
-      (result : X × Dequeued) : Type 0 where
-    pub root : R
-    pub answer : X × R × T
+  -- the root lay in the bucket as that of key k, and owed nothing
+  pub record LayIn (k : ℕ) (bucket : Contents R) (root : R) : Type 0 where
     pub named : (view root).key ≡ k
     pub paid : (view root).owes ≡ []
+    pub lay : root_at k bucket.places ≡ Some root
+
+  -- An unparking called its callback once, with the root that lay in this bucket, and answers what that answered and
+  -- what it was told, which is the truth of the bucket.
+  pub record UnparkedOne {X T : Type 0} (k : ℕ) (moment : Moment) (bucket : Contents R) (answers : R → Dequeued → X × R × T → Type 0)
+      (result : X × Dequeued) : Type 0 where
+    pub root : R
+    pub from : LayIn k bucket root
+    pub answer : X × R × T
     pub told : Tells (view root).line moment.now result.1
     pub called : answers root result.1 answer
     pub same : result.0 ≡ answer.0
-    pub bucket : Contents R
     pub left : Contents R
-    pub found : lies bucket
-    pub lay : root_at k bucket.places ≡ Some root
     pub took : TakesOne k moment bucket left result.1
 
-  -- An unparking of all called its callback once, with some root of the key, and answers how long its
-  -- line was.
-  pub record UnparkedAll {X : Type 0} (k : ℕ) (answers : R → ℕ → X × R → Type 0) (result : X × ℕ) : Type 0 where
+  -- An unparking of all called its callback once, with the root that lay in this bucket, and answers how long its line
+  -- was.
+  pub record UnparkedAll {X : Type 0} (k : ℕ) (bucket : Contents R) (answers : R → ℕ → X × R → Type 0) (result : X × ℕ) : Type 0 where
     pub root : R
+    pub from : LayIn k bucket root
     pub answer : X × R
-    pub named : (view root).key ≡ k
-    pub paid : (view root).owes ≡ []
     pub whole : result.1 ≡ length (view root).line
     pub called : answers root result.1 answer
     pub same : result.0 ≡ answer.0
 
-  -- An unparking of at most n called its callback once, with some root of the key, and answers how many it took. The
-  -- root lay in a bucket of the kind that is named, and what was told is the truth of that bucket.
-  pub record UnparkedCount {X : Type 0} (threads k n : ℕ) (lies : Contents R → Type 0) (answers : R → ℕ → Bool → X × R → Type 0)
+  -- An unparking of at most n called its callback once, with the root that lay in this bucket, and answers how many it
+  -- took. What was told is the truth of the bucket.
+  pub record UnparkedCount {X : Type 0} (threads k n : ℕ) (bucket : Contents R) (answers : R → ℕ → Bool → X × R → Type 0)
       (result : X × ℕ) : Type 0 where
     pub root : R
+    pub from : LayIn k bucket root
     pub more : Bool
     pub answer : X × R
-    pub named : (view root).key ≡ k
-    pub paid : (view root).owes ≡ []
     pub told : TellsCount threads n (view root).line result.1 more
     pub called : answers root result.1 more answer
     pub same : result.0 ≡ answer.0
-    pub bucket : Contents R
     pub left : Contents R
-    pub found : lies bucket
-    pub lay : root_at k bucket.places ≡ Some root
     pub took : TakesFirst n k bucket left (take n (view root).line) result.1 more
 
-  -- A validation was called once, with some root of the key.
-  pub record Validated {X P : Type 0} (k : ℕ) (answers : R → X × P × R × Bool → Type 0) (x : X) (pass : P) (queued : Bool) : Type 0 where
+  -- A validation answered this, called once with the root that lay in this bucket.
+  pub record Validation {X P : Type 0} (k : ℕ) (bucket : Contents R) (answers : R → X × P × R × Bool → Type 0)
+      (answer : X × P × R × Bool) : Type 0 where
     pub root : R
-    pub back : R
-    pub named : (view root).key ≡ k
-    pub paid : (view root).owes ≡ []
-    pub called : answers root (x, pass, back, queued)
-
-  -- A parking called its validation once, with some root of the key. It is invalid exactly where that said no. Where it
-  -- said yes, the action ran once then, with what the validation answered, and the letter with the token was awaited
-  -- from the pass that the action left.
-  pub record ParkedActing {X P : Type 0} (k : ℕ) (answers : R → X × P × R × Bool → Type 0) (acts : X → P → X × P → Type 0) (looked : P
-      → Option ℕ → P → Type 0) (result : P × X × Parked) : Type 0 where
-    pub root : R
-    pub answer : X × P × R × Bool
-    pub named : (view root).key ≡ k
-    pub paid : (view root).owes ≡ []
+    pub from : LayIn k bucket root
     pub called : answers root answer
+
+  -- A validation was called once. The bucket is left with the root that came back, and, where it said yes, with the
+  -- thread last in its queue.
+  pub record Validated {X P : Type 0} (k thread : ℕ) (bucket left : Contents R) (answers : R → X × P × R × Bool → Type 0) (x : X) (pass : P)
+      (queued : Bool) : Type 0 where
+    pub back : R
+    pub by : Validation k bucket answers (x, pass, back, queued)
+    pub leaves : left ≡ record bucket {
+      places = with_root k (Some back) bucket.places;
+      queue = cond queued (bucket.queue ++ (thread, k) ∷ []) bucket.queue;
+    }
+
+  -- A parking called its validation once, with the root that lay in this bucket. It is invalid exactly where that said
+  -- no. Where it said yes, the action ran once then, with what the validation answered, and the letter with the token
+  -- was awaited from the pass that the action left.
+  pub record ParkedActing {X P : Type 0} (k : ℕ) (bucket : Contents R) (answers : R → X × P × R × Bool → Type 0) (acts : X → P → X × P
+      → Type 0) (looked : P → Option ℕ → P → Type 0) (result : P × X × Parked) : Type 0 where
+    pub answer : X × P × R × Bool
+    pub by : Validation k bucket answers answer
     pub ends : Ends result.2
         ((answer.3 ≡ false) × (result.0 ≡ answer.1) × (result.1 ≡ answer.0))
         (λ token. (answer.3 ≡ true)
@@ -196,13 +200,10 @@ module _ {R : Type 0} (view : R → KeyLine) where
 
   -- The same of an action that leaves the pass alone: it is invalid exactly where the validation said no, and where
   -- that said yes, the action before sleep ran once, and the letter with the token was awaited.
-  pub record ParkedOnce {X P : Type 0} (k : ℕ) (answers : R → X × P × R × Bool → Type 0) (acts : X → X → Type 0) (looked : P → Option ℕ → P
-      → Type 0) (result : P × X × Parked) : Type 0 where
-    pub root : R
+  pub record ParkedOnce {X P : Type 0} (k : ℕ) (bucket : Contents R) (answers : R → X × P × R × Bool → Type 0) (acts : X → X → Type 0)
+      (looked : P → Option ℕ → P → Type 0) (result : P × X × Parked) : Type 0 where
     pub answer : X × P × R × Bool
-    pub named : (view root).key ≡ k
-    pub paid : (view root).owes ≡ []
-    pub called : answers root answer
+    pub by : Validation k bucket answers answer
     pub ends : Ends result.2
         ((answer.3 ≡ false) × (result.0 ≡ answer.1) × (result.1 ≡ answer.0))
         (λ token. (answer.3 ≡ true) × Awaited looked answer.1 token result.0 × acts answer.0 result.1)

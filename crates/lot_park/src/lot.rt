@@ -128,7 +128,8 @@ impl<S: Scheme> ParkingLot<S> {
         requires keeps { Validates S.Root.view S.thread key (S.thread pass) (V.post validate x pass) }
         requires sleeps { (r : S.Root) (o : _) → (S.Root.view r).key ≡ key → (S.Root.view r).owes ≡ []
             → V.post validate x pass r o → o.3 ≡ true → B.pre before_sleep o.0 }
-        ensures { ParkedOnce S.Root.view key (V.post validate x pass) (B.post before_sleep) S.looked result }
+        ensures { (b : _) × IsReadyFor S.Root.view key self.now.threads self.now.keys b × HasPlaceFor (S.thread pass) b
+            × ParkedOnce S.Root.view key b (V.post validate x pass) (B.post before_sleep) S.looked result }
     {
         let act = |x: X, pass: S::Pass, _unlocked: Unlocked| -> (X, S::Pass)
             requires { B.pre before_sleep x }
@@ -154,7 +155,8 @@ impl<S: Scheme> ParkingLot<S> {
         requires acts { (r : S.Root) (o : _) → (S.Root.view r).key ≡ key → (S.Root.view r).owes ≡ []
             → V.post validate x pass r o → o.3 ≡ true → (unlocked : _) → A.pre act o.0 o.1 unlocked }
         requires same { (y q unlocked left : _) → A.post act y q unlocked left → S.thread left.1 ≡ S.thread q }
-        ensures { ParkedActing S.Root.view key (V.post validate x pass)
+        ensures { (b : _) × IsReadyFor S.Root.view key self.now.threads self.now.keys b × HasPlaceFor (S.thread pass) b
+            × ParkedActing S.Root.view key b (V.post validate x pass)
             (λ y q left. (unlocked : _) × A.post act y q unlocked left) S.looked result }
     {
         let (x, pass, queued, unlocked) = self.queue_up(rt, pass, key, x, validate);
@@ -177,7 +179,9 @@ impl<S: Scheme> ParkingLot<S> {
     ) -> (X, S::Pass, bool, Unlocked)
         requires callable { MayValidate S.Root.view key (V.pre validate x pass) }
         requires keeps { Validates S.Root.view S.thread key (S.thread pass) (V.post validate x pass) }
-        ensures { Validated S.Root.view key (V.post validate x pass) result.0 result.1 result.2 }
+        ensures { (b : _) × (left : _) × IsReadyFor S.Root.view key self.now.threads self.now.keys b
+            × HasPlaceFor (S.thread pass) b
+            × Validated S.Root.view key (S.thread pass) b left (V.post validate x pass) result.0 result.1 result.2 }
     {
         let thread = S::thread_of(&pass);
         let (((x, pass), queued), unlocked) = self.table.with_place_for(
@@ -228,8 +232,8 @@ impl<S: Scheme> ParkingLot<S> {
         requires key { key < self.now.keys }
         requires callable { MayUnpark S.Root.view key moment.now (F.pre callback x) }
         requires keeps { Unparks S.Root.view (λ (t : Token). t.0) key moment.now (F.post callback x) }
-        ensures { UnparkedOne S.Root.view key moment (λ b. IsReadyFor S.Root.view key self.now.threads self.now.keys b)
-            (F.post callback x) result }
+        ensures { (b : _) × IsReadyFor S.Root.view key self.now.threads self.now.keys b
+            × UnparkedOne S.Root.view key moment b (F.post callback x) result }
     {
         let scheme = &self.scheme;
         let (y, told) = self.table.with_bucket(
@@ -241,7 +245,7 @@ impl<S: Scheme> ParkingLot<S> {
                 requires callable { MayUnpark S.Root.view key moment.now (F.pre callback x) }
                 requires keeps { Unparks S.Root.view (λ (t : Token). t.0) key moment.now (F.post callback x) }
                 ensures stays { Stays S.Root.view bucket.old bucket.new }
-                ensures called { UnparkedOne S.Root.view key moment (λ b. b ≡ bucket.old) (F.post callback x) result }
+                ensures called { UnparkedOne S.Root.view key moment bucket.old (F.post callback x) result }
             { unpark_in(scheme, bucket, key, moment, x, callback) },
         );
         self.wake(rt, told.thread);
@@ -261,7 +265,8 @@ impl<S: Scheme> ParkingLot<S> {
         requires key { key < self.now.keys }
         requires callable { MayUnparkAll S.Root.view key (F.pre f x) }
         requires keeps { UnparksAll S.Root.view key (F.post f x) }
-        ensures { UnparkedAll S.Root.view key (F.post f x) result }
+        ensures { (b : _) × IsReadyFor S.Root.view key self.now.threads self.now.keys b
+            × UnparkedAll S.Root.view key b (F.post f x) result }
     {
         self.unpark_count(
             rt,
@@ -291,8 +296,8 @@ impl<S: Scheme> ParkingLot<S> {
         requires key { key < self.now.keys }
         requires callable { MayUnparkCount S.Root.view self.now.threads key count (F.pre f x) }
         requires keeps { UnparksCount S.Root.view self.now.threads key count (F.post f x) }
-        ensures { UnparkedCount S.Root.view self.now.threads key count
-            (λ b. IsReadyFor S.Root.view key self.now.threads self.now.keys b) (F.post f x) result }
+        ensures { (b : _) × IsReadyFor S.Root.view key self.now.threads self.now.keys b
+            × UnparkedCount S.Root.view self.now.threads key count b (F.post f x) result }
     {
         let scheme = &self.scheme;
         let (y, taken) = self.table.with_bucket(
@@ -305,7 +310,7 @@ impl<S: Scheme> ParkingLot<S> {
                 requires callable { MayUnparkCount S.Root.view bucket.old.room key count (F.pre f x) }
                 requires keeps { UnparksCount S.Root.view bucket.old.room key count (F.post f x) }
                 ensures stays { Stays S.Root.view bucket.old bucket.new }
-                ensures called { UnparkedCount S.Root.view bucket.old.room key count (λ b. b ≡ bucket.old) (F.post f x)
+                ensures called { UnparkedCount S.Root.view bucket.old.room key count bucket.old (F.post f x)
                     (result.0, result.1.count) }
             { unpark_count_in(scheme, bucket, key, count, x, f) },
         );

@@ -28,7 +28,8 @@ pub fn park_in<S: Scheme, X, V: FnOnce(X, S::Pass, S::Root) -> (X, S::Pass, S::R
     requires callable { MayValidate S.Root.view key (V.pre validate x pass) }
     requires keeps { Validates S.Root.view S.thread key (S.thread pass) (V.post validate x pass) }
     ensures stays { Stays S.Root.view bucket.old bucket.new }
-    ensures called { Validated S.Root.view key (V.post validate x pass) result.0.0 result.0.1 result.1 }
+    ensures called { Validated S.Root.view key (S.thread pass) bucket.old bucket.new (V.post validate x pass) result.0.0
+        result.0.1 result.1 }
 {
     let thread = S::thread_of(&pass);
     let root = bucket.take_root(key);
@@ -52,7 +53,7 @@ pub fn unpark_in<S: Scheme, X, Y, F: FnOnce(X, S::Root, UnparkResult) -> (Y, S::
     requires keeps { Unparks S.Root.view (λ (t : Token). t.0) key moment.now (F.post callback x) }
     ensures stays { Stays S.Root.view bucket.old bucket.new }
     ensures took { TakesOne key moment bucket.old (record bucket.new { places = bucket.old.places }) result.1 }
-    ensures called { UnparkedOne S.Root.view key moment (λ b. b ≡ bucket.old) (F.post callback x) result }
+    ensures called { UnparkedOne S.Root.view key moment bucket.old (F.post callback x) result }
 {
     let root = bucket.take_root(key);
     let told = bucket.dequeue_one(key, moment);
@@ -78,7 +79,7 @@ pub fn unpark_count_in<S: Scheme, X, Y, F: FnOnce(X, S::Root, usize, bool) -> (Y
     ensures stays { Stays S.Root.view bucket.old bucket.new }
     ensures took { (more : _) × TakesFirst count key bucket.old (record bucket.new { places = bucket.old.places })
         (take result.1.count result.1.threads) result.1.count more }
-    ensures called { UnparkedCount S.Root.view bucket.old.room key count (λ b. b ≡ bucket.old) (F.post f x)
+    ensures called { UnparkedCount S.Root.view bucket.old.room key count bucket.old (F.post f x)
         (result.0, result.1.count) }
 {
     let mut threads = [0; MOST_THREADS];

@@ -2,4 +2,3 @@ pub mod Adding
 pub mod Seeking
 pub mod Slept
 pub mod Rest
-pub mod Through

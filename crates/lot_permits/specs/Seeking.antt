@@ -1,6 +1,6 @@
 -- How a pass stands whose thread seeks a permit of k: p before it began, q now. The keys of the semaphores begin at
 -- first_sem.
-use Rattle.std.specs.Prelude.{◌≡◌, ◌≢◌, ℕ, ◌≤◌, ◌⊎◌, List}
+use Rattle.std.specs.Prelude.{◌≡◌, ◌≢◌, ℕ, ◌≤◌, ◌⊎◌, false, List}
 use Rattle.lot_events.specs.declared.events.Event.TheVariants.{SemMark}
 use Rattle.lot_events.specs.declared.events.Seen.TheVariants.{Done}
 use Rattle.lot_rights.specs.declared.views.Access.{Access}
@@ -9,6 +9,7 @@ use Rattle.lot_whole.specs.Standing.{MayWantPermit}
 use Rattle.lot_seeking.specs.declared.seeking.Seeking.{Seeking}
 use Rattle.lot_seeking.specs.Seeking.{IsAwake, IsWanting, SeeksSo}
 use Rattle.lot_scheme.specs.Standing.{LotStanding, EndsWith, adding, seeking, queued, one_permit_more}
+use Rattle.lot_scheme.specs.SemCalls.{ParksPermit}
 use Rattle.lot_scheme.specs.Traces.{IsPermitSeek, GetPermitTrace, BusyTrace}
 
 module _ {V : Type 0} where
@@ -27,6 +28,10 @@ module _ {V : Type 0} where
   abbrev pub FindsAnother : LotStanding V → ℕ → LotStanding V → Type 0
   FindsAnother p k q = EndsWith (λ a. (word : ℕ) × (word ≢ 0) × (a ≡ Finds p.thread k word)) p q
       ⊎ ((did : List Access) × BusyTrace p.thread k did × (q ≡ adding p did))
+
+  -- it looked once more, and was not queued, since a permit was left or the semaphore not marked
+  abbrev pub IsTurnedBack : LotStanding V → ℕ → LotStanding V → Type 0
+  IsTurnedBack p k q = ParksPermit p k false q
 
 -- where above is the order of keys
 module _ {V : Type 0} (above : ℕ → ℕ → Type 0) where

@@ -14,7 +14,7 @@ use std::sync::Wait;
 impl<V: Keeps + Send, N: LotName<V> + Send, C: Tally + Send> Sought<Sems> for LotScheme<V, N, C> {
     ghost use Rattle.std.specs.Prelude.{length};
     ghost use Rattle.lot_core.specs.Parts.{IsAmongSemaphores};
-    ghost use Rattle.lot_permits.specs.Seeking.{Seeks, IsAsleepFor, HasMarked, FindsAnother};
+    ghost use Rattle.lot_permits.specs.Seeking.{Seeks, IsAsleepFor, HasMarked, FindsAnother, IsTurnedBack};
 
     ghost has = { λ s key. IsAmongSemaphores N.first_sem (length N.permits) key };
 
@@ -25,6 +25,8 @@ impl<V: Keeps + Send, N: LotName<V> + Send, C: Tally + Send> Sought<Sems> for Lo
     ghost changed = { FindsAnother };
 
     ghost marked = { HasMarked };
+
+    ghost refused = { IsTurnedBack };
 
     fn look_at(&self, key: usize) -> Look {
         let bits = self.sem_bits(key);

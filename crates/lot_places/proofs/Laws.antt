@@ -130,3 +130,13 @@ module _ {R : Type 0} where
           | inr f ↦ rw f.0 (has_key-with j k root places)
         ])
       ]
+
+  -- of two roots that were put at a key the later one is there
+  pub with_root-with : (k : ℕ) (root before : Option R) (places : List (ℕ × Option R))
+      → with_root k root (with_root k before places) ≡ with_root k root places
+  with_root-with k root before [] = refl
+  with_root-with k root before (p ∷ places) =
+      elim (eqb_tells p.0 k) [
+        | inl e ↦ rw e.0 (rw e.0 refl)
+        | inr e ↦ rw e.0 (rw e.0 (ap (λ ps. p ∷ ps) (with_root-with k root before places)))
+      ]

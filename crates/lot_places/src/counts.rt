@@ -1,7 +1,7 @@
-ghost use Rattle.std.specs.Prelude.{◌≡◌, ℕ, ◌<◌, ◌↔◌, List, [], ◌∷◌, ◌++◌, length, remove, slice_index, IsTrue};
-ghost use Rattle.std.specs.Prelude.{IsSome, IfOk, IfSome};
+ghost use Rattle.std.specs.Prelude.{◌≡◌, ℕ, ◌+◌, ◌-◌, ◌<◌, ◌↔◌, List, [], ◌∷◌, ◌++◌, length, remove, slice_index, IsTrue};
+ghost use Rattle.std.specs.Prelude.{IsSome, IfOk, IfSome, replicate};
 ghost use Rattle.lot_places.specs.Links.{times};
-ghost use Rattle.lot_places.specs.Counted.{AreCounted};
+ghost use Rattle.lot_places.specs.Counted.{AreCounted, with_count};
 
 use std::alloc::{AllocError, Global};
 use std::marker::Model;
@@ -29,6 +29,7 @@ impl Counts {
     pub fn new(alloc: Global, bound: usize) -> Result<Counts, AllocError>
         ensures counted { IfOk result (λ counts. AreCounted counts []) }
         ensures bound { IfOk result (λ counts. length counts ≡ bound) }
+        ensures none { IfOk result (λ counts. counts ≡ replicate bound 0) }
     {
         let counts = vec![in alloc; 0; bound]?;
         Ok(Counts { counts })
@@ -65,6 +66,7 @@ impl Counts {
         ensures counted { (threads : List ℕ) → AreCounted self.old threads
             → AreCounted self.new (threads ++ thread ∷ []) }
         ensures bound { length self.new ≡ length self.old }
+        ensures one { self.new ≡ with_count (λ n. n + 1) thread self.old }
     {
         if self.tells_of(thread) {
             self.counts[thread] += 1;
@@ -76,6 +78,7 @@ impl Counts {
         ensures counted { (threads : List ℕ) (i : ℕ) → AreCounted self.old threads → i < length threads
             → slice_index threads i ≡ thread → AreCounted self.new (remove threads i) }
         ensures bound { length self.new ≡ length self.old }
+        ensures one { self.new ≡ with_count (λ n. n - 1) thread self.old }
     {
         if self.tells_of(thread) {
             let count = &mut self.counts[thread];

@@ -11,9 +11,9 @@
 //! ```
 //!
 //! `Queue` lies in a fixed row of places, and each place in use knows the next. So a thread that is taken
-//! out of the middle moves no other. It counts how often each thread waits, so that nobody walks along it to
-//! find that a thread does not. `Places` has a place for each key, which evenly spaced keys find by
-//! one division, so that they are not stored. No call but `new` and `spaced` takes memory.
+//! out of the middle moves no other. It counts how often each thread below its room waits, so that nobody walks along
+//! it to find that one does not, which was never queued 255 times at once. `Places` has a place for each key, which
+//! evenly spaced keys find by one division, so that they are not stored. No call but `new` and `spaced` takes memory.
 #![tactic(auto)]
 
 mod counts;

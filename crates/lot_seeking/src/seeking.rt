@@ -10,7 +10,7 @@
 //! | `Taken`, and it has not yielded 40 times | yields, and takes one where others seek too | has it, or looks again |
 //! | `Taken` still | lines up: it takes one where one is left by now, and sleeps otherwise | has it, or looks again |
 //! | `Parked` | lines up | has it, or looks again |
-ghost use Rattle.std.specs.Prelude.{◌≡◌, ◌<◌, ◌⊎◌, MatchBool};
+ghost use Rattle.std.specs.Prelude.{◌≡◌, ◌<◌, ◌⊎◌, MatchBool, false};
 ghost use Rattle.lot_park.specs.Parking.{Ends, Awaited, Queues};
 ghost use Rattle.lot_seeking.specs.Seeking.{SeekingLaws};
 ghost use Rattle.lot_seeking.specs.declared.seeking.Seeking.TheVariants.{Got, Waits, Parks};
@@ -44,7 +44,7 @@ pub enum Seeking {
 /// What threads of a scheme seek, which T names, as the locks of its table or their permits: how its word is looked at,
 /// taken and marked.
 pub trait Sought<T>: Scheme {
-    ghost use Rattle.std.specs.Prelude.{◌≡◌, ℕ, MatchBool};
+    ghost use Rattle.std.specs.Prelude.{◌≡◌, ℕ, MatchBool, false};
     ghost use Rattle.lot_park.specs.Parking.{Awaited, Queues};
     ghost use Rattle.lot_seeking.specs.Seeking.{LinedUp};
     ghost use Rattle.lot_seeking.specs.declared.seeking.Seeking.{Seeking};
@@ -65,6 +65,10 @@ pub trait Sought<T>: Scheme {
 
     /// A pass, the key of what its thread seeks, and the pass now, with which at last its word was marked as parked.
     ghost marked: { Self.Pass → ℕ → Self.Pass → Type 0 };
+
+    /// A pass, the key of what its thread seeks, and the pass now, with which its thread looked once more, by which it
+    /// was not queued.
+    ghost refused: { Self.Pass → ℕ → Self.Pass → Type 0 };
 
     /// How often the pass's thread was woken, as far as the pass tells.
     ghost woken: { Self.Pass → ℕ } = { λ _. 0 };
@@ -112,6 +116,7 @@ pub trait Sought<T>: Scheme {
         ensures pass { MatchBool result.2 (sleeps pass (Self.Root.view root).key result.0)
             (seeks pass (Self.Root.view root).key Parks result.0) }
         ensures root { Queues Self.Root.view Self.thread pass root result.2 result.0 result.1 }
+        ensures refused { result.2 ≡ false → refused pass (Self.Root.view root).key result.0 }
         ensures awake { woken result.0 ≡ woken pass };
 
     /// Whether a thread that was woken with this token was handed what it seeks; else it seeks it still.
@@ -283,7 +288,7 @@ fn sleep<S: Sought<T>, T, R: Wait, B: BeforeSleep>(
 }
 
 /// Parks with the validation of what is sought: where it is free again, or not marked as parked, the thread is as it
-/// was. Where the thread was woken, `before` has run.
+/// was, but for the look that told so. Where the thread was woken, `before` has run.
 pub fn park<S: Sought<T>, T, R: Wait, B: BeforeSleep>(
     rt: &R,
     parking: &ParkingLot<S>,
@@ -296,6 +301,7 @@ pub fn park<S: Sought<T>, T, R: Wait, B: BeforeSleep>(
     requires parks { S.seeks pass key Parks pass }
     ensures ends { Ends result.1 (S.seeks pass key Parks result.0) (λ token. (asleep : S.Pass) × S.sleeps pass key asleep
         × Awaited S.looked asleep token result.0) }
+    ensures refused { result.1 ≡ Parked.Invalid → S.refused pass key result.0 }
     ensures ran { Ends result.1 (S.woken result.0 ≡ S.woken pass) (λ token. B.ran before.now) }
 {
     let scheme = parking.scheme();
@@ -310,6 +316,7 @@ pub fn park<S: Sought<T>, T, R: Wait, B: BeforeSleep>(
             ensures pass { MatchBool result.3 (S.sleeps pass (S.Root.view root).key result.1)
                 (S.seeks pass (S.Root.view root).key Parks result.1) }
             ensures root { Queues S.Root.view S.thread pass root result.3 result.1 result.2 }
+            ensures refused { result.3 ≡ false → S.refused pass (S.Root.view root).key result.1 }
             ensures awake { S.woken result.1 ≡ S.woken pass }
         {
             let (pass, root, queued) = scheme.queue(pass, root, key);

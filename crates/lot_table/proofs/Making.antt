@@ -15,7 +15,7 @@ use Rattle.lot_bucket.proofs.Slots.{length-spaced, even_spaced, even_place, even
 use Rattle.lot_bucket.specs.Contents.{Contents}
 use Rattle.lot_bucket.specs.KeyLine.{KeyLine}
 use Rattle.lot_bucket.specs.Settled.{IsWhole}
-use Rattle.lot_table.specs.Buckets.{IsFresh, IsFilled}
+use Rattle.lot_table.specs.Buckets.{IsFresh, AreFresh, IsFilled, AreElseAs, HaveNotBeenFair}
 
 -- one more element at the end of a list, each of which has P of its number
 pub each_more : {A : Type 0} (P : ℕ → A → Type 0) (n : ℕ) (xs ys : List A) (x : A) → ys ≡ xs ++ x ∷ [] → length xs ≡ n
@@ -106,6 +106,7 @@ module _ (R : Type 0) (size number keys left count : ℕ) (lt : number < size) (
         rootless = λ k. rw same (rootless_empty R k (spaced number size count));
         empty = ap (λ (c : Contents R). c.queue) is;
         room = ap (λ (c : Contents R). c.room) is;
+        next_fair = ap (λ (c : Contents R). c.next_fair) is;
       }
 
 -- a filled bucket that was opened
@@ -114,3 +115,9 @@ pub opened_whole : {R : Type 0} (view : R → KeyLine) (size number keys : ℕ) 
 opened_whole view size number keys b c filled is =
     rw is
     (record { is_open = refl; agrees = record { roots = filled.agrees.roots; pairs = filled.agrees.pairs }; laid_out = filled.laid_out })
+
+-- new buckets that were filled have not been fair
+pub newly_fair : {R : Type 0} (keys threads : ℕ) (fresh after : List (Contents R)) → AreFresh keys threads fresh
+    → length after ≡ length fresh → AreElseAs fresh after → HaveNotBeenFair after
+newly_fair keys threads fresh after new len alike i b lt =
+    let at : i < length fresh = omega (arith, lt, len) in (alike i b at).next_fair ∙ (new i b at).next_fair

@@ -334,7 +334,7 @@ module _ {R : Type 0} where
         next_fair = ap (λ (x : Contents R). x.next_fair) is;
       }
 
-  some_else : (before now : List (Contents R)) (j : ℕ) (r c : Contents R) → length now ≡ length before → j < length before
+  pub some_else : (before now : List (Contents R)) (j : ℕ) (r c : Contents R) → length now ≡ length before → j < length before
       → IsElseAs (get_or now j r) c → AreElseAs before now → AreElseAs before (set now j c)
   some_else before now j r c len at own so_far i d bound =
       elim (eqb_tells i j) [

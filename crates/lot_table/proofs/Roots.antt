@@ -12,10 +12,10 @@ use Rattle.lot_bucket.specs.Contents.{Contents}
 use Rattle.lot_bucket.specs.KeyLine.{KeyLine}
 use Rattle.lot_bucket.specs.Agrees.{IsRootOf}
 use Rattle.lot_bucket.proofs.Laws.{root_at-with_same, root_at-with_other, has_key-with}
-use Rattle.lot_table.specs.Buckets.{AreFresh, AreWhole, AreFilled, AreEmpty}
+use Rattle.lot_table.specs.Buckets.{AreFresh, AreWhole, AreFilled, AreEmpty, AreElseAs, AreRooted}
 use Rattle.lot_table.specs.Roots.{AreIdle, Appends}
 use Rattle.lot_table.proofs.Moving.{IsLeft, AreLeft, has_own, own_of_has, left_begins, left_here, some_left, nobody_else, no_root_else}
-use Rattle.lot_table.proofs.Moving.{emptied}
+use Rattle.lot_table.proofs.Moving.{emptied, some_else}
 
 module _ {R : Type 0} where
   slice_get_front : (xs : List R) (x : R) (k : ℕ) → k < length xs → slice_get (xs ++ x ∷ []) k ≡ slice_get xs k
@@ -37,6 +37,7 @@ module _ {R : Type 0} where
     pub empty : (i k : ℕ) (d : Contents R) → i < length before → k < length left → root_at k (get_or buckets i d).places ≡ None
     pub full : (k : ℕ) (d : Contents R) → length left ≤ k → k < length roots
         → root_at k (get_or buckets (k % length before) d).places ≡ slice_get roots k
+    pub else_as : AreElseAs before buckets
 
   pub filling_begins : (keys threads : ℕ) (roots : List R) (before : List (Contents R)) → AreFresh keys threads before
       → AreFilling roots roots before before
@@ -49,7 +50,13 @@ module _ {R : Type 0} where
         queue = λ i d. refl;
         empty = λ i k d lt l. (fresh i d lt).rootless k;
         full = λ k d le lt. absurd (omega arith);
+        else_as = λ i d lt. record { room = refl; opened = refl; next_fair = refl };
       }
+
+  -- once no root is left, each lies in the bucket of its key
+  pub filling_roots : (roots left : List R) (before buckets : List (Contents R)) → AreFilling roots left before buckets → length left ≡ 0
+      → AreRooted roots buckets
+  filling_roots roots left before buckets f none k b lt = rw (f.len) (f.full k b (omega (arith, none)) lt)
 
   module _ (threads : ℕ) (roots left rest : List R) (root : R) (before buckets : List (Contents R)) (r : Contents R)
       (fresh : AreFresh (length roots) threads before) (some : 0 < length before)
@@ -64,14 +71,16 @@ module _ {R : Type 0} where
     bound : home < length before
     bound = omega (arith, some)
 
-    pub filling_has : has_key (length rest) (get_or buckets (length rest % length before) r).places ≡ true
+    filling_has : has_key (length rest) (get_or buckets (length rest % length before) r).places ≡ true
     filling_has =
         f.has home (length rest) r
         ∙ has_own (length rest) (length before) home (length roots) _ ((fresh home r bound).laid_out (length rest)) refl
         (omega (arith, count, f.within))
 
-    pub filling_empty : root_at (length rest) (get_or buckets (length rest % length before) r).places ≡ None
-    filling_empty = f.empty home (length rest) r bound (omega (arith, count))
+    -- that has the key, and no root of it yet
+    pub filling_home : (has_key (length rest) (get_or buckets (length rest % length before) r).places ≡ true)
+        × (root_at (length rest) (get_or buckets (length rest % length before) r).places ≡ None)
+    filling_home = (filling_has, f.empty home (length rest) r bound (omega (arith, count)))
 
     -- c is what its key's bucket holds once it has the popped root
     module _ (c : Contents R) (put : c ≡ record (get_or buckets (length rest % length before) r)
@@ -155,6 +164,14 @@ module _ {R : Type 0} where
               | inl e ↦ rw (← e.1) (own_full d)
               | inr e ↦ others_full k d (omega (arith, count, e.1)) lt
             ];
+            else_as =
+                some_else before buckets home r c f.len bound
+                (record {
+                  room = ap (λ (x : Contents R). x.room) put;
+                  opened = ap (λ (x : Contents R). x.opened) put;
+                  next_fair = ap (λ (x : Contents R). x.next_fair) put;
+                })
+                f.else_as;
           }
 
   some_at : (k : ℕ) (xs : List R) → k < length xs → (x : R) × (slice_get xs k ≡ Some x)

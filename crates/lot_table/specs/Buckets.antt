@@ -1,5 +1,5 @@
 -- How keys lie in the buckets of a table: key k in bucket k mod size.
-use Rattle.std.specs.Prelude.{◌≡◌, ℕ, ◌<◌, ◌≤◌, ◌%◌, ◌^◌, false, List, [], None, length, slice_index_or}
+use Rattle.std.specs.Prelude.{◌≡◌, ℕ, ◌<◌, ◌≤◌, ◌%◌, ◌^◌, false, List, [], None, length, slice_get, slice_index_or}
 use Rattle.std.specs.List.{sum_by}
 use Rattle.lot_bucket.specs.Queue.{line_of}
 use Rattle.lot_bucket.specs.Places.{root_at}
@@ -38,19 +38,30 @@ module _ {R : Type 0} where
   abbrev pub AreElseAs : List (Contents R) → List (Contents R) → Type 0
   AreElseAs before after = (i : ℕ) (b : Contents R) → i < length before → IsElseAs (slice_index_or before i b) (slice_index_or after i b)
 
-  -- all was moved from a row of so many buckets to one of so many
+  -- no bucket of a row has been fair yet: at each moment after 0 it is time to be so
+  abbrev pub HaveNotBeenFair : List (Contents R) → Type 0
+  HaveNotBeenFair buckets = (i : ℕ) (b : Contents R) → i < length buckets → (slice_index_or buckets i b).next_fair ≡ 0
+
+  -- each root of a list lies in the bucket of its key
+  abbrev pub AreRooted : List R → List (Contents R) → Type 0
+  AreRooted roots buckets = (k : ℕ) (b : Contents R) → k < length roots → root_at k (bucket_of k buckets b).places ≡ slice_get roots k
+
+  -- all was moved from a row of so many buckets to one of so many, of which none has been fair
   pub record IsMove (before after : ℕ) (rows : Rows R) : Type 0 where
     pub before_len : length rows.before ≡ before
     pub after_len : length rows.after ≡ after
     pub lines : KeepsLines rows.before rows.after
+    pub fair : HaveNotBeenFair rows.after
 
-  -- a new bucket of a table: closed and empty, with the keys of its number, and room for so many threads
+  -- a new bucket of a table: closed and empty, with the keys of its number, and room for so many threads; it has not been
+  -- fair
   pub record IsFresh (size number keys threads : ℕ) (b : Contents R) : Type 0 where
     pub closed : b.opened ≡ false
     pub laid_out : IsLaidOut size number keys b
     pub rootless : (k : ℕ) → root_at k b.places ≡ None
     pub empty : b.queue ≡ []
     pub room : b.room ≡ threads
+    pub next_fair : b.next_fair ≡ 0
 
   abbrev pub AreFresh : ℕ → ℕ → List (Contents R) → Type 0
   AreFresh keys threads buckets = (i : ℕ) (b : Contents R) → i < length buckets

@@ -6,8 +6,8 @@ ghost use Rattle.lot_table.specs.declared.sizes.TheConstants.{MOST_THREADS};
 
 use crate::cells::Growing;
 use crate::growing::Growth;
-use crate::served::Served;
-use crate::sizes::{MOST_THREADS, TableFault, grown_size};
+use crate::served::{Refused, Served};
+use crate::sizes::{MOST_THREADS, grown_size};
 use lot_bucket::Root;
 use std::sync::Wait;
 use std::thread;
@@ -21,7 +21,7 @@ pub fn ensure_with<W: Wait, R: Root, G: Drop>(
     growth: &Growth<'_, R, G>,
     threads: usize,
     once: G,
-) -> Result<Served, TableFault>
+) -> Result<Served, Refused>
     requires { threads ≤ MOST_THREADS }
     ensures { IfOk result (λ g. Serves threads g) }
 {
@@ -33,10 +33,13 @@ pub fn ensure_with<W: Wait, R: Root, G: Drop>(
         if grown == size {
             return Ok(Served::kept(&newest, size, growing));
         }
-        if let Some((found, filled)) = growth.grow(rt, &newest, grown, &mut growing)? {
-            return Ok(Served::grew(&newest, size, &found, grown, filled, growing));
+        match growth.grow(rt, &newest, grown, &mut growing) {
+            Ok(Some((found, filled))) => {
+                return Ok(Served::grew(&newest, size, &found, grown, filled, growing));
+            }
+            Ok(None) => thread::yield_now(),
+            Err(denied) => return Err(Refused::unchanged(denied, growing)),
         }
-        thread::yield_now();
     }
     unreachable!()
 }

@@ -2,9 +2,9 @@
 
 ghost use Rattle.std.specs.Prelude.{◌≡◌, ℕ, ◌<◌, ◌≤◌, IfOk, slice_index_or, vec_len, vec_capacity};
 ghost use Rattle.lot_bucket.specs.Agrees.{IsSpent};
-ghost use Rattle.lot_table.specs.Buckets.{IsFresh, AreFresh};
+ghost use Rattle.lot_table.specs.Buckets.{AreFresh};
 
-use crate::sizes::TableFault;
+use crate::denied::{Denied, fresh_bucket, room_for};
 use lot_bucket::{Bucket, Root};
 use std::alloc::Global;
 
@@ -16,19 +16,19 @@ pub fn fresh_buckets<R: Root>(
     size: usize,
     keys: usize,
     threads: usize,
-) -> Result<Vec<Bucket<R>>, TableFault>
+) -> Result<Vec<Bucket<R>>, Denied>
     requires { size ≤ most }
     ensures len { IfOk result (λ v. vec_len v ≡ size) }
     ensures fresh { IfOk result (λ v. AreFresh keys threads v.items) }
     ensures room { IfOk result (λ v. most ≤ vec_capacity v) }
 {
-    let mut buckets = Vec::with_capacity(alloc, most)?;
+    let mut buckets = room_for(alloc, most)?;
     for number in 0..size {
         match fresh_bucket(alloc, number, size, keys, threads) {
             Ok(bucket) => buckets.push_reserved(bucket),
-            Err(fault) => {
+            Err(denied) => {
                 discard_all(buckets);
-                return Err(fault);
+                return Err(denied);
             }
         }
     }
@@ -44,19 +44,4 @@ pub fn discard_all<R: Root>(buckets: Vec<Bucket<R>>)
         bucket.discard();
     }
     buckets.destroy_empty();
-}
-
-// The keys of a bucket are those below `keys` that leave `number` when they are divided by `size`.
-fn fresh_bucket<R: Root>(
-    alloc: Global,
-    number: usize,
-    size: usize,
-    keys: usize,
-    threads: usize,
-) -> Result<Bucket<R>, TableFault>
-    requires { number < size }
-    ensures { IfOk result (λ b. IsFresh size number keys threads b) }
-{
-    let count = keys.saturating_sub(number).div_ceil(size);
-    Ok(Bucket::spaced(alloc, threads, number, size, count)?)
 }

@@ -4,8 +4,8 @@ ghost use Rattle.std.specs.Prelude.{◌≡◌, ◌<◌, true, false, Some, IfOk,
 ghost use Rattle.lot_table.specs.Buckets.{IsMove};
 
 use crate::cells::{Found, Growing};
+use crate::denied::Denied;
 use crate::growth::Grower;
-use crate::sizes::TableFault;
 use crate::version::Filled;
 use crate::versions::{Newest, Versions};
 use lot_bucket::Root;
@@ -58,7 +58,7 @@ impl<'a, R: Root, G> Growth<'a, R, G> {
         newest: &Newest<'a, R>,
         size: usize,
         growing: &mut Growing<G>,
-    ) -> Result<Option<(Found<'a, R>, Filled<R>)>, TableFault>
+    ) -> Result<Option<(Found<'a, R>, Filled<R>)>, Denied>
         requires size { 0 < size }
         requires first { growing.old.has_grown ≡ false }
         ensures published { IfOk result (λ r. MatchOption r (growing.new.has_grown ≡ false)

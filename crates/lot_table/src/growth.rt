@@ -7,9 +7,9 @@ ghost use Rattle.lot_table.specs.Tables.{under};
 
 use crate::cells::{Found, Growing, Unset, publish};
 use crate::closing::spend_empty;
+use crate::denied::{Denied, room_for};
 use crate::fresh::{discard_all, fresh_buckets};
 use crate::moves::move_rows;
-use crate::sizes::TableFault;
 use crate::version::{Filled, Version};
 use lot_bucket::{Bucket, Root, Settled};
 use std::alloc::Global;
@@ -43,7 +43,7 @@ impl Grower {
         keys: usize,
         threads: usize,
         growing: &mut Growing<G>,
-    ) -> Result<Option<(Found<'a, R>, Filled<R>)>, TableFault>
+    ) -> Result<Option<(Found<'a, R>, Filled<R>)>, Denied>
         requires size { 0 < size }
         requires first { growing.old.has_grown ≡ false }
         ensures published { IfOk result (λ r. MatchOption r (growing.new.has_grown ≡ false)
@@ -74,7 +74,7 @@ fn supplies_for<'a, W: Wait, R: Root>(
     size: usize,
     keys: usize,
     threads: usize,
-) -> Result<Supplies<'a, R>, TableFault>
+) -> Result<Supplies<'a, R>, Denied>
     requires { 0 < size }
     ensures guards { IfOk result (λ s. (vec_len s.guards ≡ 0) × (left ≤ vec_capacity s.guards)) }
     ensures old { IfOk result (λ s. (s.old.items ≡ []) × (left ≤ vec_capacity s.old)) }
@@ -82,26 +82,26 @@ fn supplies_for<'a, W: Wait, R: Root>(
     ensures sizes { IfOk result (λ s. vec_len s.fresh ≡ s.grown.size) }
     ensures grown { IfOk result (λ s. s.grown.size ≡ size) }
 {
-    let guards = Vec::with_capacity(alloc, left)?;
+    let guards = room_for(alloc, left)?;
     let grown = Version::hollow(alloc, size)?;
     let fresh = match fresh_buckets(alloc, size, size, keys, threads) {
         Ok(fresh) => fresh,
-        Err(fault) => {
+        Err(denied) => {
             grown.discard(rt);
-            return Err(fault);
+            return Err(denied);
         }
     };
-    match Vec::with_capacity(alloc, left) {
+    match room_for(alloc, left) {
         Ok(old) => Ok(Supplies {
             guards,
             old,
             fresh,
             grown,
         }),
-        Err(_) => {
+        Err(denied) => {
             discard_all(fresh);
             grown.discard(rt);
-            Err(TableFault::NoMemory)
+            Err(denied)
         }
     }
 }

@@ -24,6 +24,7 @@
 
 mod cells;
 mod closing;
+mod denied;
 mod ensuring;
 mod fresh;
 mod growing;

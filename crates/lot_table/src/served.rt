@@ -4,7 +4,8 @@ ghost use Rattle.std.specs.Prelude.{◌≡◌, true, false, Some};
 ghost use Rattle.lot_table.specs.Buckets.{IsMove};
 
 use crate::cells::{Found, Growing};
-use crate::sizes::Grown;
+use crate::denied::Denied;
+use crate::sizes::{Grown, TableFault};
 use crate::version::Filled;
 use crate::versions::Newest;
 use lot_bucket::Root;
@@ -69,5 +70,27 @@ impl Served {
         ensures { result ≡ self.now }
     {
         self.grown
+    }
+}
+
+/// That a table does not serve so many threads: a request for memory was refused, and the call has published no
+/// version, so the table is as it was.
+#[derive(Drop)]
+pub struct Refused {
+    denied: Denied,
+}
+
+impl Refused {
+    pub(crate) fn unchanged<G: Drop>(denied: Denied, _growing: Growing<G>) -> Refused
+        requires { _growing.has_grown ≡ false }
+    {
+        Refused { denied }
+    }
+}
+
+impl From<Refused> for TableFault {
+    fn from(refused: Refused) -> TableFault {
+        let Refused { denied } = refused;
+        denied.into()
     }
 }

@@ -4,7 +4,7 @@ ghost use Rattle.std.specs.Sync.Mutex.{mutex_guard_value};
 ghost use Rattle.lot_bucket.specs.Settled.{IsReadyFor, HasPlaceFor, Stays};
 ghost use Rattle.lot_table.specs.Roots.{AreIdle, Appends};
 ghost use Rattle.lot_table.specs.Sizes.{Serves, grown_size_of, first_size_of};
-ghost use Rattle.lot_table.specs.Buckets.{AreFresh, AreFilled};
+ghost use Rattle.lot_table.specs.Buckets.{AreFresh, AreFilled, AreElseAs, AreRooted};
 ghost use Rattle.lot_table.specs.declared.sizes.TheConstants.{MOST_THREADS, MOST_VERSIONS};
 
 use crate::closing::Closing;
@@ -212,7 +212,7 @@ impl<R: Root> Table<R> {
     {
         prove!(self.threads <= MOST_THREADS);
         let growth = Growth::new(&self.versions, &self.grower, self.keys, self.threads);
-        ensure_with(rt, &growth, threads, ())
+        Ok(ensure_with(rt, &growth, threads, ())?)
     }
 
     /// Appends each key's root to `out`, in key order. It takes no memory.
@@ -255,20 +255,20 @@ fn parts_for<R: Root>(alloc: Global, threads: usize, keys: usize) -> Result<Part
     let most = first + grown_size(0, threads);
     let has_room = locks.reserve(first).is_ok() && cells.reserve(MOST_VERSIONS - 1).is_ok();
     let made = if has_room {
-        fresh_buckets(alloc, most, first, keys, threads)
+        fresh_buckets(alloc, most, first, keys, threads).ok()
     } else {
-        Err(TableFault::NoMemory)
+        None
     };
     match made {
-        Ok(fresh) => Ok(Parts {
+        Some(fresh) => Ok(Parts {
             locks,
             fresh,
             cells,
         }),
-        Err(fault) => {
+        None => {
             locks.destroy_empty();
             cells.destroy_empty();
-            Err(fault)
+            Err(TableFault::NoMemory)
         }
     }
 }
@@ -280,6 +280,8 @@ fn put_all<R: Root>(fresh: &mut [Bucket<R>], roots: &mut Vec<R>)
     requires idle { AreIdle R.view roots.old.items }
     ensures filled { AreFilled R.view (length roots.old.items) fresh.new }
     ensures room { (vec_len roots.new ≡ 0) × (vec_capacity roots.new ≡ vec_capacity roots.old) }
+    ensures roots { AreRooted roots.old.items fresh.new }
+    ensures as_before { AreElseAs fresh.old fresh.new }
 {
     let size = fresh.len();
     while let Some(root) = roots.pop() {

@@ -4,8 +4,8 @@ ghost use Rattle.std.specs.Prelude.{◌≡◌, ◌<◌, ◌≤◌, [], IfOk, len
 ghost use Rattle.lot_bucket.specs.Settled.{IsWhole};
 ghost use Rattle.lot_table.specs.Buckets.{AreWhole, AreFilled};
 
+use crate::denied::{Denied, room_for};
 use crate::moves::MovedRows;
-use crate::sizes::TableFault;
 use crate::slot::Slot;
 use lot_bucket::{Bucket, Root, Settled};
 use std::alloc::Global;
@@ -47,11 +47,11 @@ impl<R: Root> Model for Version<R> {
 
 impl<R: Root> Version<R> {
     /// A version of so many buckets, all of which are closed and have no keys.
-    pub fn hollow(alloc: Global, size: usize) -> Result<Version<R>, TableFault>
+    pub fn hollow(alloc: Global, size: usize) -> Result<Version<R>, Denied>
         requires { 0 < size }
         ensures { IfOk result (λ v. v.size ≡ size) }
     {
-        let mut slots = Vec::with_capacity(alloc, size)?;
+        let mut slots = room_for(alloc, size)?;
         for number in 0..size {
             slots.push_reserved(Slot::new(Settled::hollow(alloc, number, size), number, size));
         }

@@ -3,6 +3,5 @@ pub mod Notified
 pub mod Roots
 pub mod Sums
 pub mod Taken
-pub mod Through
 pub mod Told
 pub mod Waited

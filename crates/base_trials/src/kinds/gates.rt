@@ -112,7 +112,7 @@ impl<V: Keeps + Send, N: LotName<V> + Send> Scheme for Gated<V, N> {
 // Locks are sought as in the scheme within.
 impl<V: Keeps + Send, N: LotName<V> + Send> Sought<Locks> for Gated<V, N> {
     ghost use Rattle.std.specs.Prelude.{◌<◌};
-    ghost use Rattle.lot_locks.specs.Standing.{IsAsleepFor, Seeks, HasMarked, FindsAnother};
+    ghost use Rattle.lot_locks.specs.Standing.{IsAsleepFor, Seeks, HasMarked, FindsAnother, IsTurnedBack};
 
     ghost has = { λ s key. key < N.locks };
 
@@ -123,6 +123,8 @@ impl<V: Keeps + Send, N: LotName<V> + Send> Sought<Locks> for Gated<V, N> {
     ghost changed = { FindsAnother };
 
     ghost marked = { HasMarked };
+
+    ghost refused = { IsTurnedBack };
 
     fn look_at(&self, key: usize) -> Look {
         self.inner.look_at(key)

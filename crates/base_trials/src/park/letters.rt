@@ -182,3 +182,10 @@ pub(crate) fn taken(thread: usize, more: bool) -> UnparkResult {
         fair: false,
     }
 }
+
+pub(crate) fn taken_fairly(thread: usize, more: bool) -> UnparkResult {
+    UnparkResult {
+        fair: true,
+        ..taken(thread, more)
+    }
+}

@@ -5,11 +5,11 @@ ghost use Rattle.lot_bucket.specs.Queue.{first_of};
 use super::askings::{ASKINGS, QUIET_ASKINGS, await_line, is_within};
 use super::letters::{
     Letters, Pass, THREADS, Told, await_told, has_looked_within, is_told_within, no_letters, note,
-    nothing_told, stays_untold, taken,
+    nothing_told, stays_untold, taken, taken_fairly,
 };
 use super::rights::{EARLY, Right, idle_rights, joined, passed, passed_all, passed_first};
 use crate::asserts::{equal, failed, is_so, opened_lot};
-use lot_park::{Grown, Parked, ParkingLot, Token, UnparkResult};
+use lot_park::{Grown, Moment, Parked, ParkingLot, Token, UnparkResult};
 use std::alloc::Global;
 use std::process::Abort;
 use std::sync::Wait;
@@ -68,10 +68,22 @@ fn unpark<R: Wait + Abort>(
 ) -> UnparkResult
     requires { key < lot.now.keys }
 {
+    unpark_at(rt, lot, key, token, EARLY)
+}
+
+fn unpark_at<R: Wait + Abort>(
+    rt: &R,
+    lot: &ParkingLot<Letters>,
+    key: usize,
+    token: u32,
+    moment: Moment,
+) -> UnparkResult
+    requires { key < lot.now.keys }
+{
     let ((), told) = lot.unpark_one(
         rt,
         key,
-        EARLY,
+        moment,
         (),
         |x: (), root: Right, told: UnparkResult| -> ((), Right, Token)
             requires clear { root.owes.items ≡ [] }
@@ -224,6 +236,25 @@ fn unparks_two_then_one<R: Wait + Abort>(rt: &R, lot: &ParkingLot<Letters>, told
     equal(rt, unpark_first(rt, lot, 1, 1), (0, false));
 }
 
+// A fair unparking at moment 10 whose random number is 7, but for whole milliseconds, sets the next fair moment to 17: it
+// is not yet time to be fair then, but at the moment after it.
+fn unparks_before_and_after_it_is_fair<R: Wait + Abort>(
+    rt: &R,
+    lot: &ParkingLot<Letters>,
+    told: &Told,
+)
+    requires { (lot.now.threads ≡ THREADS) × (lot.now.keys ≡ KEYS) }
+{
+    let word = 3_000_007;
+    let at_10 = unpark_at(rt, lot, 1, 4, Moment { now: 10, word });
+    equal(rt, at_10, taken_fairly(0, true));
+    let at_17 = unpark_at(rt, lot, 1, 5, Moment { now: 17, word });
+    equal(rt, at_17, taken(1, true));
+    let at_18 = unpark_at(rt, lot, 1, 6, Moment { now: 18, word });
+    equal(rt, at_18, taken_fairly(2, false));
+    await_told(rt, told, 2, 6);
+}
+
 // The action before sleep unparks the thread's own key.
 fn unparks_itself<R: Wait + Abort>(
     rt: &R,
@@ -360,6 +391,8 @@ enum Trial {
     WholeLine,
     /// The first of a line are unparked.
     FirstOfLine,
+    /// Those of a line are unparked one by one, at moments at which it is time to be fair, and is not.
+    FairMoments,
     /// A sleeper looks for its letter before it sleeps, and again each time that a sleep has ended: here before it
     /// finds the first letter, before each sleep of the second parking, and before it finds the second letter.
     KeptWake,
@@ -394,6 +427,7 @@ fn try_on<R: Wait + Abort>(rt: &R, lot: &ParkingLot<Letters>, told: &Told, trial
         Trial::TwoKeys => unparks_one_key_then_the_other(rt, lot, told),
         Trial::WholeLine => unparks_a_line_of_two(rt, lot, told),
         Trial::FirstOfLine => unparks_two_then_one(rt, lot, told),
+        Trial::FairMoments => unparks_before_and_after_it_is_fair(rt, lot, told),
         Trial::KeptWake => looks_again_and_sleeps_on(rt, lot, told),
     }
 }
@@ -467,10 +501,16 @@ fn a_whole_line_is_unparked(rt: HostRuntime) {
     tried(&rt, rt.alloc(), &sleepers, Trial::WholeLine);
 }
 
+const LINE_OF_THREE: [(usize, usize, usize); 3] = [(0, 1, 1), (1, 1, 2), (2, 1, 3)];
+
 #[test]
 fn the_first_of_a_line_are_unparked(rt: HostRuntime) {
-    let sleepers = [(0, 1, 1), (1, 1, 2), (2, 1, 3)];
-    tried(&rt, rt.alloc(), &sleepers, Trial::FirstOfLine);
+    tried(&rt, rt.alloc(), &LINE_OF_THREE, Trial::FirstOfLine);
+}
+
+#[test]
+fn an_unparking_sets_the_next_fair_moment(rt: HostRuntime) {
+    tried(&rt, rt.alloc(), &LINE_OF_THREE, Trial::FairMoments);
 }
 
 #[test]

@@ -33,6 +33,8 @@ impl Sought<Meetings> for Letters {
 
     ghost marked = { λ before key now. ⊥ };
 
+    ghost refused = { λ before key now. now ≡ before };
+
     fn look_at(&self, _key: usize) -> Look {
         self.note_a_look();
         Look::Taken

@@ -1,7 +1,7 @@
-use Rattle.std.proofs.Common.{◌≡◌, None, ◌∙◌, ap}
+use Rattle.std.proofs.Common.{◌≡◌, None, sym, ◌∙◌, ap}
 use Rattle.lot_bucket.specs.Contents.{Contents}
 use Rattle.lot_bucket.specs.Places.{with_root}
-use Rattle.lot_park.proofs.Under.{own_root, parked_stays, place_has, place_empty}
+use Rattle.lot_park.proofs.Under.{own_root, parked_stays, parked_leaves, place_has, place_empty}
 use Rattle.lot_park.proofs.parking.park_in.Given.{Over}
 use Rattle.lot_park.proofs.parking.park_in.Goals.{After-enqueue_if}
 use Rattle.lot_park.proofs.parking.park_in.Goals as goal
@@ -33,9 +33,14 @@ pub returns-clause-called : goal.returns-clause-called
 returns-clause-called g c =
     let own = own_root g.S.Root.Root.view _ _ _ c.requires.ready c.take_root-root.ensures.root in
     record {
-      root = c.take_root-root.result;
       back = c.validate-x.result.2;
-      named = own.named;
-      paid = own.paid;
-      called = c.validate-x.ensures;
+      by = record {
+        root = c.take_root-root.result;
+        from = record { named = own.named; paid = own.paid; lay = c.take_root-root.ensures.root };
+        called = c.validate-x.ensures;
+      };
+      leaves =
+          rw (sym c.thread_of-thread.ensures)
+          (parked_leaves c.args.key _ c.args.bucket.now _ _ _ c.validate-x.result.2 c.validate-x.result.3 c.take_root-root.ensures.left
+          c.enqueue_if.ensures c.put_root.ensures);
     }

@@ -65,17 +65,13 @@ returns-clause-called g c =
     rw c.taken_of.ensures.count
     (record {
       root = c.take_first-root.result.0;
+      from = record { named = (own g at).named; paid = (own g at).paid; lay = c.take_first-root.ensures.root };
       more = c.take_first-root.result.2;
       answer = c.f-y.result;
-      named = (own g at).named;
-      paid = (own g at).paid;
       told = told g at;
       called = c.f-y.ensures;
       same = refl;
-      bucket = c.args.bucket.now;
       left = record c.put_root.new.self { places = c.args.bucket.now.places };
-      found = refl;
-      lay = c.take_first-root.ensures.root;
       took =
           took g at c.put_root.new.self c.pay_all-root.result
           (take c.args.count (g.S.Root.Root.view c.take_first-root.result.0).line)

@@ -71,15 +71,11 @@ returns-clause-called g c =
     let at = (goal.at.returns-clause-called g c).After-dequeue_one-told in
     record {
       root = c.take_root-root.result;
+      from = record { named = (own g at).named; paid = (own g at).paid; lay = c.take_root-root.ensures.root };
       answer = c.callback-y.result;
-      named = (own g at).named;
-      paid = (own g at).paid;
       told = told g at;
       called = c.callback-y.ensures;
       same = refl;
-      bucket = c.args.bucket.now;
       left = record c.put_root.new.self { places = c.args.bucket.now.places };
-      found = refl;
-      lay = c.take_root-root.ensures.root;
       took = took g at c.put_root.new.self c.pay-root.result c.put_root.ensures;
     }

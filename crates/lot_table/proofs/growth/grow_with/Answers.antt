@@ -2,6 +2,7 @@ use Rattle.std.proofs.Common.{refl, ◌≡◌, List, length, arith, ap, ◌∙�
 use Rattle.lot_bucket.specs.Contents.{Contents}
 use Rattle.lot_table.specs.Tables.{Extent}
 use Rattle.lot_table.proofs.Guarding.{length-under}
+use Rattle.lot_table.proofs.Making.{newly_fair}
 use Rattle.lot_table.proofs.growth.grow_with.Goals as goal
 
 pub move_over-filled-requires-clause-fresh : goal.move_over-filled-requires-clause-fresh
@@ -25,5 +26,9 @@ returns-in-Ok g c =
             );
         after_len = c.move_over-filled.ensures.count ∙ size;
         lines = rw c.move_over-filled.ensures.from c.move_over-filled.ensures.lines;
+        fair =
+            newly_fair c.args.keys c.args.threads c.args.supplies.fresh.items c.move_over-filled.result.after c.requires.fresh.0
+            (omega (arith, c.requires.fresh.1, c.move_over-filled.ensures.count, size, c.args.supplies.fresh.ok.0))
+            c.move_over-filled.ensures.fresh;
       },
     )

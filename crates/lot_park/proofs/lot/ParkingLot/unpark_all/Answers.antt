@@ -13,5 +13,9 @@ unpark_count-requires-clause-keeps g c κs within =
 
 pub returns : goal.returns
 returns g c =
-    unparked_all g.S.Root.Root.view c.args.self.now.threads c.args.key c.threads.result _ (goal.F-post g c.args.f c.args.x)
-    c.unpark_count.result c.threads.ensures c.unpark_count.ensures
+    let (bucket, ready, counted) = c.unpark_count.ensures in (
+      bucket,
+      ready,
+      unparked_all g.S.Root.Root.view c.args.self.now.threads c.args.key c.threads.result bucket (goal.F-post g c.args.f c.args.x)
+          c.unpark_count.result c.threads.ensures counted,
+    )

@@ -1,9 +1,8 @@
-use Rattle.std.proofs.Common.{◌≡◌, ℕ, sym, ◌∙◌, ap, subst, ◌≤◌}
+use Rattle.std.proofs.Common.{ℕ, sym, ◌∙◌, ap, subst, ◌≤◌}
 use Rattle.lot_bucket.specs.Settled.{IsReadyFor}
 use Rattle.lot_table.specs.declared.sizes.TheConstants.{MOST_THREADS}
 use Rattle.lot_park.specs.Lots.{ParkingView}
 use Rattle.lot_park.specs.Parking.{MayUnparkCount, UnparksCount, UnparkedCount}
-use Rattle.lot_park.proofs.Under.{count_found}
 use denote.Exit.{no}
 use denote.Param.Send.{param_send, arg_send}
 use Rattle.lot_park.proofs.lot.ParkingLot.unpark_count.Goals as goal
@@ -28,11 +27,10 @@ with_bucket-y-requires-clause-callable g c κs within = λ b ready.
 
 pub returns : goal.returns
 returns g c =
-    let (bucket, after, ready, post, stays) = c.with_bucket-y.ensures in
-    count_found g.S.Root.Root.view c.args.key (λ b. IsReadyFor g.S.Root.Root.view c.args.key c.args.self.now.threads c.args.self.now.keys b)
-    bucket.now
-    (subst (λ (v : ParkingView g.row.S.Denot). IsReadyFor g.S.Root.Root.view c.args.key v.threads v.keys bucket.now) c.self.view_is ready)
-    c.args.self.now.threads c.args.count (goal.F-post g c.args.f c.args.x) (c.with_bucket-y.result.0, c.with_bucket-y.result.1.count)
-    (subst (λ (n : ℕ). UnparkedCount g.S.Root.Root.view n c.args.key c.args.count (λ b. b ≡ bucket.now) (goal.F-post g c.args.f c.args.x)
-    (c.with_bucket-y.result.0, c.with_bucket-y.result.1.count))
-    (ready.room ∙ ap (λ (v : ParkingView g.row.S.Denot). v.threads) c.self.view_is) post.1)
+    let (bucket, after, ready, post, stays) = c.with_bucket-y.ensures in (
+      bucket.now,
+      subst (λ (v : ParkingView g.row.S.Denot). IsReadyFor g.S.Root.Root.view c.args.key v.threads v.keys bucket.now) c.self.view_is ready,
+      subst (λ (n : ℕ). UnparkedCount g.S.Root.Root.view n c.args.key c.args.count bucket.now (goal.F-post g c.args.f c.args.x)
+          (c.with_bucket-y.result.0, c.with_bucket-y.result.1.count))
+          (ready.room ∙ ap (λ (v : ParkingView g.row.S.Denot). v.threads) c.self.view_is) post.1,
+    )

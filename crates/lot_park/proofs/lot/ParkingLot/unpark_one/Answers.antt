@@ -1,7 +1,6 @@
 use Rattle.std.proofs.Common.{subst}
 use Rattle.lot_bucket.specs.Settled.{IsReadyFor}
 use Rattle.lot_park.specs.Lots.{ParkingView}
-use Rattle.lot_park.proofs.Under.{one_found}
 use denote.Exit.{no}
 use denote.Param.Send.{param_send, arg_send}
 use Rattle.lot_park.proofs.lot.ParkingLot.unpark_one.Goals as goal
@@ -14,8 +13,8 @@ with_bucket-y-requires-clause-callable g c κs within = λ b ready. (
 
 pub returns : goal.returns
 returns g c =
-    let (bucket, after, ready, post, stays) = c.with_bucket-y.ensures in
-    one_found g.S.Root.Root.view c.args.key (λ b. IsReadyFor g.S.Root.Root.view c.args.key c.args.self.now.threads c.args.self.now.keys b)
-    bucket.now
-    (subst (λ (v : ParkingView g.row.S.Denot). IsReadyFor g.S.Root.Root.view c.args.key v.threads v.keys bucket.now) c.self.view_is ready)
-    c.args.moment (goal.F-post g c.args.callback c.args.x) c.with_bucket-y.result post.1
+    let (bucket, after, ready, post, stays) = c.with_bucket-y.ensures in (
+      bucket.now,
+      subst (λ (v : ParkingView g.row.S.Denot). IsReadyFor g.S.Root.Root.view c.args.key v.threads v.keys bucket.now) c.self.view_is ready,
+      post.1,
+    )
