@@ -1,6 +1,6 @@
 -- What the calls of the schedules leave of a pass, and what it may do then.
 use Rattle.std.proofs.Common.{◌≡◌, ◌≢◌, ℕ, ◌+◌, ◌<◌, ◌≤◌, slice_index, slice_set, arith, List, [], ◌∷◌, length, set, get_or}
-use Rattle.std.proofs.Common.{Some, inl, inr, refl, sym, ap, subst, ◌∙◌}
+use Rattle.std.proofs.Common.{Some, inl, inr, refl, sym, ap, subst, ◌∙◌, Bool, true, false, MatchBool}
 use Rattle.std.proofs.lemmas.List.{get_or-set_same, get_or-set_other, set-get_or}
 use Rattle.std.proofs.lemmas.List.Elements.{All-nil}
 use mathlib.Core.Logic.{dite}
@@ -207,6 +207,12 @@ module _ {V Part : Type 0} (rule : CallersRule V Part) where
 
   pub taken_has_it : (t l : ℕ) (a : Access) (p q : LotStanding V) → IsFor t l p → GetsLock rule p l a q → HasIt t l q
   taken_has_it t l a p q before (x, found, is) = got_so t l p q x (a ∷ []) before found is
+
+  -- the lock was taken, and it got it or wants it
+  pub taken_or_wanted : (t l : ℕ) (b : Bool) (a : Access) (did : List Access) (p q : LotStanding V) → IsFor t l p
+      → MatchBool b (GetsLock rule p l a q) (q ≡ adding (wanting p l) did) → MatchBool b (HasIt t l q) (Wants t l q)
+  taken_or_wanted t l true a did p q before got = taken_has_it t l a p q before got
+  taken_or_wanted t l false a did p q before is = wanted t l p q did before is
 
   pub owner_has_it : (t l : ℕ) (p q : LotStanding V) → IsFor t l p → IsOwner rule p l q → HasIt t l q
   owner_has_it t l p q before o = got_so t l p q o.value o.did before o.found o.is

@@ -14,7 +14,7 @@ use Rattle.lot_words.specs.declared.views.Place.TheVariants.{InSlot, Out}
 use Rattle.lot_words.specs.CallersRule.{CallersRule}
 use Rattle.lot_words.specs.World.{IsHeld}
 use Rattle.lot_words.specs.Calls.{owning, wanting, woken, GetsBy, FoundNone, Collected}
-use Rattle.base_trials.specs.LockSchedules.{IsPass, IsCalm, Wants, Owns, IsRoot}
+use Rattle.base_trials.specs.LockSchedules.{IsPass, IsCalm, Owns, IsRoot, Gets, ComesToWant, StaysCalm}
 use Rattle.base_trials.proofs.Dealt.{two_taken}
 use Rattle.lot_words.specs.Shown.{pass_at, root_at}
 
@@ -29,25 +29,26 @@ module _ {V : Type 0} (p : PassShown (LockPassView V)) (z : TableId) (t l : ℕ)
 
   module _ {Part : Type 0} (rule : CallersRule V Part) (a c : Access) (q : PassShown (LockPassView V)) (b : Bool)
       (up : p.own.asleep ≡ false) where
-    got : GetsBy rule p l a q → Owns q.own l
-    got h = subst (λ (y : PassShown (LockPassView V)). Owns y.own l) (sym h.2.1) (grips h.0 up)
+    got : GetsBy rule p l a q → Gets p.own l q.own
+    got h = subst (λ (y : PassShown (LockPassView V)). Gets p.own l y.own) (sym h.2.1) (grips h.0 up, refl)
 
-    pub took : MatchBool b (GetsBy rule p l a q) (Notes p (wanting p.own l) c q) → MatchBool b (Owns q.own l) (Wants q.own l)
+    pub took : MatchBool b (GetsBy rule p l a q) (Notes p (wanting p.own l) c q)
+        → MatchBool b (Gets p.own l q.own) (ComesToWant p.own l q.own)
     took = by_bool b
       where
         by_bool : (b : Bool) → MatchBool b (GetsBy rule p l a q) (Notes p (wanting p.own l) c q)
-            → MatchBool b (Owns q.own l) (Wants q.own l)
+            → MatchBool b (Gets p.own l q.own) (ComesToWant p.own l q.own)
         by_bool true h = got h
-        by_bool false h = subst (λ (y : PassShown (LockPassView V)). Wants y.own l) (sym h.1) (up, refl)
+        by_bool false h = subst (λ (y : PassShown (LockPassView V)). ComesToWant p.own l y.own) (sym h.1) ((up, refl), refl)
 
     pub tried : p.own.aim ≡ None → MatchBool b (GetsBy rule p l a q) (Notes p p.own c q)
-        → MatchBool b (Owns q.own l) (IsCalm q.own)
+        → MatchBool b (Gets p.own l q.own) (StaysCalm p.own q.own)
     tried aim = by_bool b
       where
         by_bool : (b : Bool) → MatchBool b (GetsBy rule p l a q) (Notes p p.own c q)
-            → MatchBool b (Owns q.own l) (IsCalm q.own)
+            → MatchBool b (Gets p.own l q.own) (StaysCalm p.own q.own)
         by_bool true h = got h
-        by_bool false h = subst (λ (y : PassShown (LockPassView V)). IsCalm y.own) (sym h.1) (up, aim)
+        by_bool false h = subst (λ (y : PassShown (LockPassView V)). StaysCalm p.own y.own) (sym h.1) ((up, aim), refl)
 
   -- to whom it was handed owns it
   pub was_handed : {Part : Type 0} (rule : CallersRule V Part) (q : PassShown (LockPassView V)) (o : Option ℕ)

@@ -12,3 +12,8 @@ IsFree table t p = (p.table ≡ table) × (p.thread ≡ t) × (p.own.out ≡ Non
 -- the root of the condition, in whose line nobody is
 abbrev pub IsEmpty : TableId → RootShown CondRootView → Type 0
 IsEmpty table q = (q.table ≡ table) × (q.key ≡ 1) × (q.own.line ≡ []) × (q.own.owes ≡ [])
+
+-- the passes of the threads 0, 1 and 2, which are free so, and the root
+abbrev pub AreFree : TableId → PassShown CondPassView → PassShown CondPassView → PassShown CondPassView
+    → RootShown CondRootView → Type 0
+AreFree table zero one two root = IsFree table 0 zero × IsFree table 1 one × IsFree table 2 two × IsEmpty table root

@@ -1,8 +1,8 @@
 -- What the schedules of the tests know of a pass on two locks.
-use Rattle.std.specs.Prelude.{◌≡◌, ℕ, true, false, List, [], ◌∷◌, length, Some, None}
+use Rattle.std.specs.Prelude.{◌≡◌, ℕ, true, false, List, [], ◌∷◌, length, slice_set, Some, None}
 use Rattle.atomic_table.specs.Seated.{TableId}
 use Rattle.lot_rights.specs.Shown.{PassShown, RootShown}
-use Rattle.lot_words.specs.declared.views.Hold.TheVariants.{NotHeld}
+use Rattle.lot_words.specs.declared.views.Hold.TheVariants.{NotHeld, Held, FoundParked}
 use Rattle.lot_words.specs.declared.views.LockPassView.{LockPassView}
 use Rattle.lot_words.specs.declared.views.LockRootView.{LockRootView}
 use Rattle.lot_words.specs.Values.{IsIn, HasSeen}
@@ -44,3 +44,33 @@ MayPass {V} p l = IsCalm p × HoldsParked p l × ((y : V) × IsIn p l y)
 -- the root of the lock, which owes nothing, with this line
 abbrev pub IsRoot : TableId → ℕ → List ℕ → RootShown LockRootView → Type 0
 IsRoot table l line q = (q.table ≡ table) × (q.key ≡ l) × (q.own.line ≡ line) × (q.own.owes ≡ None)
+
+-- what calls leave of a pass p: it has got the lock
+abbrev pub Gets : {V : Type 0} → LockPassView V → ℕ → LockPassView V → Type 0
+Gets p l q = Owns q l × (q.holds ≡ slice_set p.holds l Held)
+
+-- it has got nothing, and wants the lock
+abbrev pub ComesToWant : {V : Type 0} → LockPassView V → ℕ → LockPassView V → Type 0
+ComesToWant p l q = Wants q l × (q.holds ≡ p.holds)
+
+-- it has got nothing, and wants nothing
+abbrev pub StaysCalm : {V : Type 0} → LockPassView V → LockPassView V → Type 0
+StaysCalm p q = IsCalm q × (q.holds ≡ p.holds)
+
+-- it has let the lock go
+abbrev pub LetsGo : {V : Type 0} → LockPassView V → ℕ → LockPassView V → Type 0
+LetsGo p l q = IsCalm q × (q.holds ≡ slice_set p.holds l NotHeld)
+
+-- it has the lock still, and knows that it is parked
+abbrev pub FindsParked : {V : Type 0} → LockPassView V → ℕ → LockPassView V → Type 0
+FindsParked p l q = MayPass q l × (q.holds ≡ slice_set p.holds l FoundParked)
+
+-- the passes of the threads 0 and 1, which have nothing, and the root of the lock, in whose line nobody is
+abbrev pub AreFresh : {V : Type 0} → TableId → ℕ → PassShown (LockPassView V) → PassShown (LockPassView V)
+    → RootShown LockRootView → Type 0
+AreFresh table l zero one root = HasNothing table 0 zero × HasNothing table 1 one × IsRoot table l [] root
+
+-- and what a schedule leaves of them
+abbrev pub AreBack : {V : Type 0} → TableId → ℕ → PassShown (LockPassView V) → PassShown (LockPassView V)
+    → RootShown LockRootView → Type 0
+AreBack table l zero one root = HasNothing table 0 zero × HasNothing table 1 one × (root.table ≡ table) × (root.key ≡ l)

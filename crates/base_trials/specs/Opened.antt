@@ -38,6 +38,12 @@ pub record AreFreshRoots (table : TableId) (locks conds : ℕ) (roots : List (Ro
   pub each : (c : ℕ) → c < locks + conds → slice_get roots c ≡ Some
       (root_at_table table (new_root (fresh_root (size_of locks conds)) c))
 
+-- the words of so many locks and conditions, whose table has this name, and all their rights
+abbrev pub IsOpened : {V : Type 0} → ℕ → ℕ → TableId → TableId → LotSize → List (PassShown (LotPassView V))
+    → List (RootShown LotRootView) → Type 0
+IsOpened locks conds name table size passes roots =
+    (table ≡ name) × (size ≡ size_of locks conds) × AreDealt table locks conds passes × AreFreshRoots table locks conds roots
+
 -- ---- as they come back
 pub record AreBack {V : Type 0} (table : TableId) (passes : List (PassShown (LotPassView V))) : Type 0 where
   pub named : All (λ (p : PassShown (LotPassView V)). p.table ≡ table) passes

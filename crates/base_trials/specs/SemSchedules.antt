@@ -1,5 +1,5 @@
 -- What the schedules of the tests know of the rights of a table with one semaphore, whose number is 1.
-use Rattle.std.specs.Prelude.{◌≡◌, ℕ, true, List, length, Some, None}
+use Rattle.std.specs.Prelude.{◌≡◌, ℕ, true, List, [], length, Some, None}
 use Rattle.atomic_table.specs.Seated.{TableId}
 use Rattle.lot_rights.specs.Shown.{PassShown, RootShown}
 use Rattle.lot_sems.specs.declared.views.SemPassView.{SemPassView}
@@ -33,3 +33,8 @@ Sleeps table t p = IsOf table t p × (p.own.asleep ≡ true) × (p.own.seeks ≡
 -- the root of the semaphore, with this line, which owes nothing
 abbrev pub HasLine : TableId → List ℕ → RootShown SemRootView → Type 0
 HasLine table line q = (q.table ≡ table) × (q.key ≡ 1) × (q.own.line ≡ line) × (q.own.owes ≡ None)
+
+-- the passes of the threads 0, 1 and 2, which are calm, and the root, in whose line nobody is
+abbrev pub AreIdle : TableId → PassShown SemPassView → PassShown SemPassView → PassShown SemPassView
+    → RootShown SemRootView → Type 0
+AreIdle table zero one two root = IsFree table 0 zero × IsFree table 1 one × IsFree table 2 two × HasLine table [] root

@@ -39,6 +39,13 @@ pub(crate) fn is_so(rt: &impl Abort, is_so: bool, what: &str)
     assert!(rt; is_so, "{what}");
 }
 
+/// The answer is the one that is wanted, or the test fails.
+pub(crate) fn answer_is(rt: &impl Abort, answer: bool, wanted: bool)
+    ensures { answer ≡ wanted }
+{
+    assert_eq!(rt; answer, wanted);
+}
+
 /// The letter is the one that is wanted, or the test fails.
 pub(crate) fn letter_is(rt: &impl Abort, letter: Option<u32>, wanted: Option<u32>)
     ensures { letter ≡ wanted }
@@ -52,7 +59,9 @@ pub(crate) fn equal<T: PartialEq + Debug + Copy>(rt: &impl Abort, found: T, want
 }
 
 /// A word has the bits that are wanted, or the test fails.
-pub(crate) fn bits_are(rt: &impl Abort, found: u64, wanted: u64) {
+pub(crate) fn bits_are(rt: &impl Abort, found: u64, wanted: u64)
+    ensures { found ≡ wanted }
+{
     assert_eq!(rt; found, wanted);
 }
 

@@ -1,17 +1,15 @@
 //! Schedules on a lot whose scheme is the test's own: a parking that comes too late, and a lock that is handed over
 //! while the table of buckets grows.
-ghost use Rattle.std.specs.Prelude.{◌≡◌, ℕ, ◌<◌, []};
+ghost use Rattle.std.specs.Prelude.{◌≡◌, ℕ, ◌<◌, [], MatchBool};
 ghost use Rattle.base_trials.specs.Calm.{IsCalm, IsFor, Wants, HasIt};
-ghost use Rattle.base_trials.specs.Opened.{AreDealt, AreFreshRoots, size_of};
+ghost use Rattle.base_trials.specs.Opened.{IsOpened};
 ghost use Rattle.base_trials.specs.Waits.{IsSmall, IsSmallLot};
 
-use crate::asserts::{bits_are, failed, is_so, opened_lot};
-use crate::kinds::asserts::{count_is, is_not, parked_is, released_is};
+use crate::asserts::{answer_is, bits_are, failed, is_so, opened_lot};
+use crate::kinds::asserts::{count_is, parked_is, released_is};
 use crate::kinds::gates::{Gated, GatedLot};
-use crate::kinds::handoffs::handed_while_it_grows;
 use crate::kinds::tables::{
-    CalmThree, EARLY, OneTable, Pass, Passes, Roots, Words, close_words, deal, gather, name_roots,
-    open_words, unname_roots,
+    CalmThree, EARLY, Opened, Pass, close_words, deal, gather, name_roots, open_words, unname_roots,
 };
 use crate::rights::tally::Tally;
 use lot_locks::{Locks, Released, let_go};
@@ -40,115 +38,87 @@ impl<R: Abort> BeforeSleep for Never<'_, R> {
     }
 }
 
-// The lock 0 is free, and is got.
-pub(crate) fn get<N: LotName<Tally> + Send>(
-    rt: &impl Abort,
-    scheme: &OneTable<N>,
-    pass: Pass<N>,
-) -> Pass<N>
-    requires small { IsSmall N.locks N.conds N.first_sem }
-    requires pass { (t : ℕ) × IsFor t 0 pass }
-    ensures { (t : ℕ) → IsFor t 0 pass → HasIt t 0 result }
-{
-    let (pass, got) = scheme.take(pass, 0);
-    is_so(rt, got, "the lock is got");
-    pass
+/// A lot for five threads, of two locks and a condition, on which three threads take lock 0.
+#[derive(Drop)]
+pub(crate) struct OnGated<'a, N: LotName<Tally> + Send, R> {
+    pub(crate) rt: &'a R,
+    pub(crate) lot: &'a GatedLot<N>,
+    ghost small: { IsSmallLot 5 N.locks N.conds N.first_sem lot.now.threads lot.now.keys },
 }
 
-// The lock is held, and is wanted from now on.
-fn want<N: LotName<Tally> + Send>(rt: &impl Abort, scheme: &OneTable<N>, pass: Pass<N>) -> Pass<N>
-    requires small { IsSmall N.locks N.conds N.first_sem }
-    requires pass { (t : ℕ) × IsFor t 0 pass }
-    ensures { (t : ℕ) → IsFor t 0 pass → Wants t 0 result }
-{
-    let (pass, got) = scheme.take(pass, 0);
-    is_not(rt, got);
-    pass
-}
+impl<N: LotName<Tally> + Send, R: Wait + Abort> OnGated<'_, N, R> {
+    // The lock is free, and is got; or it is held, and is wanted from now on.
+    pub(crate) fn take(&self, pass: Pass<N>, wanted: bool) -> Pass<N>
+        requires pass { (t : ℕ) × IsFor t 0 pass }
+        ensures { (t : ℕ) → IsFor t 0 pass → MatchBool wanted (HasIt t 0 result) (Wants t 0 result) }
+    {
+        let (pass, got) = self.lot.scheme().inner().take(pass, 0);
+        answer_is(self.rt, got, wanted);
+        pass
+    }
 
-// The lock is held, and is marked as parked.
-fn mark<N: LotName<Tally> + Send>(rt: &impl Abort, scheme: &OneTable<N>, pass: Pass<N>) -> Pass<N>
-    requires small { IsSmall N.locks N.conds N.first_sem }
-    requires pass { (t : ℕ) × Wants t 0 pass }
-    ensures { (t : ℕ) → Wants t 0 pass → Wants t 0 result }
-{
-    let (pass, marked) = scheme.mark(pass, 0);
-    is_so(rt, marked, "the lock is held");
-    pass
-}
+    // The lock is held, and is marked as parked.
+    fn mark(&self, pass: Pass<N>) -> Pass<N>
+        requires pass { (t : ℕ) × Wants t 0 pass }
+        ensures { (t : ℕ) → Wants t 0 pass → Wants t 0 result }
+    {
+        let (pass, marked) = self.lot.scheme().inner().mark(pass, 0);
+        is_so(self.rt, marked, "the lock is held");
+        pass
+    }
 
-// Lets the lock go at moment 0, and this becomes of it.
-pub(crate) fn release<N: LotName<Tally> + Send, R: Wait + Abort>(
-    rt: &R,
-    lot: &GatedLot<N>,
-    pass: Pass<N>,
-    fair: bool,
-    wanted: Released,
-) -> Pass<N>
-    requires small { IsSmallLot 5 N.locks N.conds N.first_sem lot.now.threads lot.now.keys }
-    requires pass { (t : ℕ) × HasIt t 0 pass }
-    ensures { (t : ℕ) → HasIt t 0 pass → IsCalm t result }
-{
-    let (pass, released) = let_go(rt, lot, pass, 0, EARLY, fair);
-    released_is(rt, released, wanted);
-    pass
-}
+    // Lets the lock go at moment 0, and this becomes of it.
+    pub(crate) fn release(&self, pass: Pass<N>, fair: bool, wanted: Released) -> Pass<N>
+        requires pass { (t : ℕ) × HasIt t 0 pass }
+        ensures { (t : ℕ) → HasIt t 0 pass → IsCalm t result }
+    {
+        let (pass, released) = let_go(self.rt, self.lot, pass, 0, EARLY, fair);
+        released_is(self.rt, released, wanted);
+        pass
+    }
 
-// Its parking comes too late: it is not queued, and still wants the lock.
-fn park_in_vain<N: LotName<Tally> + Send, R: Wait + Abort>(
-    rt: &R,
-    lot: &GatedLot<N>,
-    pass: Pass<N>,
-) -> Pass<N>
-    requires small { IsSmallLot 5 N.locks N.conds N.first_sem lot.now.threads lot.now.keys }
-    requires thread { pass.thread < 3 }
-    requires pass { (t : ℕ) × Wants t 0 pass }
-    ensures { (t : ℕ) → Wants t 0 pass → Wants t 0 result }
-{
-    let (pass, parked) = park::<Gated<Tally, N>, Locks, R, Never<'_, R>>(
-        rt,
-        lot,
-        pass,
-        0,
-        &Never { rt },
-    );
-    parked_is(rt, parked, Parked::Invalid);
-    pass
-}
+    // Its parking comes too late: it is not queued, and still wants the lock.
+    fn park_in_vain(&self, pass: Pass<N>) -> Pass<N>
+        requires thread { pass.thread < 3 }
+        requires pass { (t : ℕ) × Wants t 0 pass }
+        ensures { (t : ℕ) → Wants t 0 pass → Wants t 0 result }
+    {
+        let (pass, parked) = park::<Gated<Tally, N>, Locks, R, Never<'_, R>>(
+            self.rt,
+            self.lot,
+            pass,
+            0,
+            &Never { rt: self.rt },
+        );
+        parked_is(self.rt, parked, Parked::Invalid);
+        pass
+    }
 
-// The word of the lock is this.
-fn word_is<N: LotName<Tally>>(rt: &impl Abort, scheme: &OneTable<N>, wanted: u64)
-    requires { IsSmall N.locks N.conds N.first_sem }
-{
-    bits_are(rt, scheme.lock_bits(0), wanted);
-}
+    // The word of the lock is this.
+    pub(crate) fn word_is(&self, wanted: u64) {
+        bits_are(self.rt, self.lot.scheme().inner().lock_bits(0), wanted);
+    }
 
-// The lock is marked by thread 1, let go, and got by thread 2 before thread 1 parks: the parking is invalid, the line
-// is as it was, and thread 1 goes on trying until it has the lock.
-fn too_late<N: LotName<Tally> + Send, R: Wait + Abort>(
-    rt: &R,
-    lot: &GatedLot<N>,
-    three: CalmThree<N>,
-) -> CalmThree<N>
-    requires small { IsSmallLot 5 N.locks N.conds N.first_sem lot.now.threads lot.now.keys }
-{
-    let CalmThree { zero, one, two } = three;
-    let scheme = lot.scheme().inner();
-    let zero = get(rt, scheme, zero);
-    let one = want(rt, scheme, one);
-    let one = mark(rt, scheme, one);
-    word_is(rt, scheme, 3);
-    let zero = release(rt, lot, zero, false, Released::Nobody);
-    let two = get(rt, scheme, two);
-    word_is(rt, scheme, 1);
-    let one = park_in_vain(rt, lot, one);
-    word_is(rt, scheme, 1);
-    count_is(rt, lot.line_length(rt, 0), 0);
-    let one = want(rt, scheme, one);
-    let two = release(rt, lot, two, false, Released::Quiet);
-    let one = get(rt, scheme, one);
-    let one = release(rt, lot, one, false, Released::Quiet);
-    CalmThree { zero, one, two }
+    // The lock is marked by thread 1, let go, and got by thread 2 before thread 1 parks: the parking is invalid, the
+    // line is as it was, and thread 1 goes on trying until it has the lock.
+    fn too_late(&self, three: CalmThree<N>) -> CalmThree<N> {
+        let CalmThree { zero, one, two } = three;
+        let zero = self.take(zero, true);
+        let one = self.take(one, false);
+        let one = self.mark(one);
+        self.word_is(3);
+        let zero = self.release(zero, false, Released::Nobody);
+        let two = self.take(two, true);
+        self.word_is(1);
+        let one = self.park_in_vain(one);
+        self.word_is(1);
+        count_is(self.rt, self.lot.line_length(self.rt, 0), 0);
+        let one = self.take(one, false);
+        let two = self.release(two, false, Released::Quiet);
+        let one = self.take(one, true);
+        let one = self.release(one, false, Released::Quiet);
+        CalmThree { zero, one, two }
+    }
 }
 
 /// What is played on a lot.
@@ -158,17 +128,12 @@ enum Schedule {
     Handoff,
 }
 
-fn played<N: LotName<Tally> + Send + Sync, R: Threads + Wait + Abort + Sync>(
-    rt: &R,
-    lot: &GatedLot<N>,
-    three: CalmThree<N>,
-    schedule: Schedule,
-) -> CalmThree<N>
-    requires small { IsSmallLot 5 N.locks N.conds N.first_sem lot.now.threads lot.now.keys }
-{
-    match schedule {
-        Schedule::LateParking => too_late(rt, lot, three),
-        Schedule::Handoff => handed_while_it_grows(rt, lot, three),
+impl<N: LotName<Tally> + Send + Sync, R: Threads + Wait + Abort + Sync> OnGated<'_, N, R> {
+    fn played(&self, three: CalmThree<N>, schedule: Schedule) -> CalmThree<N> {
+        match schedule {
+            Schedule::LateParking => self.too_late(three),
+            Schedule::Handoff => self.handed_while_it_grows(three),
+        }
     }
 }
 
@@ -176,25 +141,19 @@ fn played<N: LotName<Tally> + Send + Sync, R: Threads + Wait + Abort + Sync>(
 fn play<N: LotName<Tally> + Send + Sync, R: Threads + Wait + Abort + Sync>(
     rt: &R,
     alloc: Global,
-    words: Words,
-    mut passes: Passes,
-    mut roots: Roots,
+    opened: Opened,
     schedule: Schedule,
 )
-    requires named { (words.table ≡ N.opening.locks) × (words.size ≡ size_of 2 1) }
-    requires names { (N.threads ≡ 3) × (N.permits ≡ []) }
-    requires small { IsSmall N.locks N.conds N.first_sem }
-    requires passes { AreDealt words.table 2 1 passes.items }
-    requires roots { AreFreshRoots words.table 2 1 roots.items }
+    requires opened { IsOpened 2 1 N.opening.locks opened.0.table opened.0.size opened.1.items opened.2.items }
+    requires named { (N.threads ≡ 3) × (N.permits ≡ []) × IsSmall N.locks N.conds N.first_sem }
 {
+    let (words, mut passes, mut roots) = opened;
     let (zero, one, two) = deal::<N>(&mut passes);
-    let Ok(named) = name_roots::<N>(alloc, &mut roots) else {
-        failed(rt, "no memory")
-    };
+    let named = name_roots::<N>(rt, alloc, &mut roots);
     let scheme = Gated::new(LotScheme::new(words, 2, 3));
     let (lot, mut back) = opened_lot(rt, alloc, LOT_THREADS, named, scheme);
-    let three = played(rt, &lot, CalmThree { zero, one, two }, schedule);
-    let CalmThree { zero, one, two } = three;
+    let on_gated = OnGated { rt, lot: &lot };
+    let CalmThree { zero, one, two } = on_gated.played(CalmThree { zero, one, two }, schedule);
     gather(&mut passes, zero, one, two);
     let words = lot.close(rt, &mut back).into_inner().into_words();
     unname_roots(&mut roots, back);
@@ -206,10 +165,8 @@ fn try_on_a_lot<R: Threads + Wait + Abort + Sync>(
     alloc: Global,
     schedule: Schedule,
 ) -> Result<(), Fail> {
-    let Ok((words, passes, roots)) = open_words(alloc, 2, 1) else {
-        return Err("no memory".into());
-    };
-    play::<Brand, R>(rt, alloc, words, passes, roots, schedule);
+    let opened = open_words(alloc, 2, 1)?;
+    play::<Brand, R>(rt, alloc, opened, schedule);
     Ok(())
 }
 

@@ -6,14 +6,14 @@ ghost use Rattle.lot_park.specs.Parking.{Queues, Tells};
 ghost use Rattle.lot_waits.specs.Notifying.{Dequeues, DequeuesAll, one_of};
 ghost use Rattle.lot_waits.specs.Waiting.{Slept};
 ghost use Rattle.base_trials.specs.Calm.{IsCalm, HasSetOut};
-ghost use Rattle.base_trials.specs.Opened.{AreDealt, AreFreshRoots, size_of};
+ghost use Rattle.base_trials.specs.Opened.{IsOpened};
 ghost use Rattle.base_trials.specs.Waits.{IsSmall, IsSmallLot};
 
 use crate::asserts::{bits_are, failed, opened_lot};
 use crate::kinds::asserts::{count_is, is_not, parked_is};
 use crate::kinds::tables::{
-    EARLY, OneTable, Pass, Passes, Roots, THREADS, Words, close_words, deal, gather, name_roots,
-    open_words, unname_roots,
+    EARLY, OneTable, Opened, Pass, THREADS, close_words, deal, gather, name_roots, open_words,
+    unname_roots,
 };
 use crate::kinds::waiters::Lot;
 use crate::rights::tally::Tally;
@@ -224,23 +224,13 @@ fn taken_before_it_sleeps<N: LotName<Tally> + Send, R: Wait + Abort>(
 }
 
 // Plays on a lot, and closes it.
-fn play<N: LotName<Tally> + Send, R: Wait + Abort>(
-    rt: &R,
-    alloc: Global,
-    words: Words,
-    mut passes: Passes,
-    mut roots: Roots,
-)
-    requires named { (words.table ≡ N.opening.locks) × (words.size ≡ size_of 2 1) }
-    requires names { (N.threads ≡ 3) × (N.permits ≡ []) }
-    requires small { IsSmall N.locks N.conds N.first_sem }
-    requires passes { AreDealt words.table 2 1 passes.items }
-    requires roots { AreFreshRoots words.table 2 1 roots.items }
+fn play<N: LotName<Tally> + Send, R: Wait + Abort>(rt: &R, alloc: Global, opened: Opened)
+    requires opened { IsOpened 2 1 N.opening.locks opened.0.table opened.0.size opened.1.items opened.2.items }
+    requires named { (N.threads ≡ 3) × (N.permits ≡ []) × IsSmall N.locks N.conds N.first_sem }
 {
+    let (words, mut passes, mut roots) = opened;
     let (zero, one, two) = deal::<N>(&mut passes);
-    let Ok(named) = name_roots::<N>(alloc, &mut roots) else {
-        failed(rt, "no memory")
-    };
+    let named = name_roots::<N>(rt, alloc, &mut roots);
     let (lot, mut back) = opened_lot(rt, alloc, THREADS, named, LotScheme::new(words, 2, 3));
     let (zero, one) = taken_before_it_sleeps(rt, &lot, zero, one, false);
     let (zero, one) = taken_before_it_sleeps(rt, &lot, zero, one, true);
@@ -252,8 +242,8 @@ fn play<N: LotName<Tally> + Send, R: Wait + Abort>(
 
 #[test]
 fn who_is_taken_before_its_sleep_does_not_sleep(rt: HostRuntime) {
-    let Ok((words, passes, roots)) = open_words(rt.alloc(), 2, 1) else {
+    let Ok(opened) = open_words(rt.alloc(), 2, 1) else {
         failed(&rt, "no memory")
     };
-    play::<Brand, HostRuntime>(&rt, rt.alloc(), words, passes, roots);
+    play::<Brand, HostRuntime>(&rt, rt.alloc(), opened);
 }

@@ -7,6 +7,7 @@ ghost use Rattle.lot_scheme.specs.Roots.{root_view};
 ghost use Rattle.base_trials.specs.Calm.{IsCalm};
 ghost use Rattle.base_trials.specs.Opened.{AreDealt, AreFreshRoots, AreBack, AreRootsBack, IsUntouched, size_of};
 
+use crate::asserts::failed;
 use crate::rights::tally::Tally;
 use crate::taking::take_three;
 use lot_park::Moment;
@@ -14,6 +15,7 @@ use lot_rights::WordsFault;
 use lot_scheme::{LotName, LotScheme, NamedPass, NamedRoot};
 use lot_whole::{LotLyingRoot, LotPass, LotWords};
 use std::alloc::{AllocError, Global};
+use std::process::Abort;
 
 pub(crate) const THREADS: usize = 3;
 
@@ -29,6 +31,9 @@ pub(crate) type Words = LotWords<Tally>;
 pub(crate) type Passes = Vec<LotPass<Tally>>;
 
 pub(crate) type Roots = Vec<LotLyingRoot<Tally>>;
+
+/// The words with all their rights, as the opening answers them.
+pub(crate) type Opened = (Words, Passes, Roots);
 
 /// The passes of the three threads, each of which has no lock and wants none.
 pub(crate) struct CalmThree<N: LotName<Tally>> {
@@ -51,11 +56,7 @@ fn tallies(alloc: Global, count: usize) -> Result<Vec<Tally>, AllocError>
 }
 
 /// Opens the words of a lot of so many locks and conditions.
-pub(crate) fn open_words(
-    alloc: Global,
-    locks: usize,
-    conds: usize,
-) -> Result<(Words, Passes, Roots), WordsFault>
+pub(crate) fn open_words(alloc: Global, locks: usize, conds: usize) -> Result<Opened, WordsFault>
     requires { (0 < locks) × (locks + conds ≤ 3) }
     ensures size { IfOk result (λ r. r.0.size ≡ size_of locks conds) }
     ensures passes { IfOk result (λ r. AreDealt r.0.table locks conds r.1.items) }
@@ -101,24 +102,28 @@ pub(crate) fn gather<N: LotName<Tally>>(
     passes.push_reserved(two.into_pass());
 }
 
-/// The roots of the two locks and of the condition under the lot's name.
+/// The roots of the two locks and of the condition under the lot's name, or the test fails.
 pub(crate) fn name_roots<N: LotName<Tally>>(
+    rt: &impl Abort,
     alloc: Global,
     roots: &mut Roots,
-) -> Result<Vec<NamedRoot<Tally, N>>, AllocError>
+) -> Vec<NamedRoot<Tally, N>>
     requires keys { (N.locks ≡ 2) × (N.conds ≡ 1) × (N.first_sem ≡ 3) }
     requires fresh { AreFreshRoots N.opening.locks 2 1 roots.old.items }
-    ensures idle { IfOk result (λ named. (vec_len named ≡ 3) × AreIdle root_view named.items) }
-    ensures room { IfOk result (λ _. (vec_len roots.new ≡ 0) × (3 ≤ vec_capacity roots.new)) }
+    ensures idle { (vec_len result ≡ 3) × AreIdle root_view result.items }
+    ensures room { (vec_len roots.new ≡ 0) × (3 ≤ vec_capacity roots.new) }
 {
-    let mut named = Vec::with_capacity(alloc, 3)?;
+    let mut named = match Vec::with_capacity(alloc, 3) {
+        Ok(named) => named,
+        Err(_) => failed(rt, "no memory"),
+    };
     let cond = roots.take_last();
     let second = roots.take_last();
     let first = roots.take_last();
     named.push_reserved(NamedRoot::new(first));
     named.push_reserved(NamedRoot::new(second));
     named.push_reserved(NamedRoot::new(cond));
-    Ok(named)
+    named
 }
 
 /// They come back.

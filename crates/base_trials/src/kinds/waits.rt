@@ -1,14 +1,12 @@
 //! Waits and notifications in a lot of two locks and one condition, and what the ledger says of them.
 ghost use Rattle.std.specs.Prelude.{◌≡◌, ◌<◌, None, [], IsSomeAnd};
 ghost use Rattle.lot_waits.specs.Counts.{called_more, one_wait_more};
-ghost use Rattle.base_trials.specs.Opened.{AreDealt, AreFreshRoots, size_of};
+ghost use Rattle.base_trials.specs.Opened.{IsOpened};
 ghost use Rattle.base_trials.specs.Waits.{EndsThere, IsSmall, IsSmallLot};
 
 use crate::asserts::{failed, is_so, opened_lot};
 use crate::kinds::asserts::{count_is, is_not, ledger_is};
-use crate::kinds::tables::{
-    EARLY, Passes, Roots, THREADS, Words, name_roots, open_words, unname_roots,
-};
+use crate::kinds::tables::{EARLY, Opened, THREADS, name_roots, open_words, unname_roots};
 use crate::kinds::waiters::{BeforeSweep, CountedPass, Lot, Room, Three, deal_waiters, settle};
 use crate::rights::tally::Tally;
 use lot_park::{BeforeSleep, ParkingLot, Scheme, Token, UnparkResult};
@@ -61,17 +59,32 @@ fn is_raised(sign: &AtomicU64) -> bool {
     false
 }
 
-// The first is in the line, and does not sleep before it was taken from it.
+// A thread raises its sign, and does not go on before another has raised the other one.
 #[derive(Drop)]
-struct UntilTaken<'a, R> {
+struct Meets<'a, R> {
     rt: &'a R,
-    signs: &'a Signs,
+    sign: &'a AtomicU64,
+    other: &'a AtomicU64,
 }
 
-impl<R: Abort> BeforeSleep for UntilTaken<'_, R> {
+impl<R: Abort> Meets<'_, R> {
+    fn meet(&self) {
+        raise(self.sign);
+        is_so(self.rt, is_raised(self.other), "the other has come");
+    }
+}
+
+// The first is in the line, and does not sleep before it was taken from it.
+impl<R: Abort> BeforeSleep for Meets<'_, R> {
     fn run(&self) {
-        raise(&self.signs.queued);
-        is_so(self.rt, is_raised(&self.signs.taken), "it was taken");
+        self.meet();
+    }
+}
+
+// Between the clearing of the flag and the taking of the line, the late thread comes into the line.
+impl<R: Abort> BeforeSweep for Meets<'_, R> {
+    fn run(&self) {
+        self.meet();
     }
 }
 
@@ -87,20 +100,6 @@ impl BeforeSleep for Late<'_> {
     }
 }
 
-// Between the clearing of the flag and the taking of the line, the late thread comes into the line.
-#[derive(Drop)]
-struct Between<'a, R> {
-    rt: &'a R,
-    signs: &'a Signs,
-}
-
-impl<R: Abort> BeforeSweep for Between<'_, R> {
-    fn run(&self) {
-        raise(&self.signs.cleared);
-        is_so(self.rt, is_raised(&self.signs.late), "the second has come");
-    }
-}
-
 // What was lent to a thread comes back: a closure can't hold a waiter.
 fn give_back<T>(here: &mut Option<T>, lent: T)
     requires { here.old ≡ None }
@@ -112,294 +111,253 @@ fn give_back<T>(here: &mut Option<T>, lent: T)
     }
 }
 
-// Waits with the lock 0, and is taken from the line before it sleeps.
-fn wait_until_taken<N: LotName<Tally> + Send + Sync, R: Wait + Abort>(
-    rt: &R,
-    lot: &Lot<N>,
-    here: &mut Option<CountedPass<N>>,
-    signs: &Signs,
-)
-    requires small { IsSmallLot 3 N.locks N.conds N.first_sem lot.now.threads lot.now.keys }
-    requires thread { IsSomeAnd here.old (λ p. p.thread < 3) }
-    ensures { EndsThere (λ p. one_wait_more p 2) here.old here.new }
-{
-    let zero = here.take().unwrap();
-    give_back(here, zero.wait(rt, lot, 0, &UntilTaken { rt, signs }));
+// Where a thread's pass lies, or two, which is lent: a closure can't hold a pass.
+type Place<N> = Option<CountedPass<N>>;
+
+type TwoPlaces<N> = Option<(CountedPass<N>, CountedPass<N>)>;
+
+// A lot of two locks and a condition, on which three threads wait and notify.
+#[derive(Drop)]
+struct OnLot<'a, N: LotName<Tally> + Send, R> {
+    rt: &'a R,
+    lot: &'a Lot<N>,
+    ghost small: { IsSmallLot 3 N.locks N.conds N.first_sem lot.now.threads lot.now.keys },
 }
 
-// Takes the thread that is in the line, by a notification of one or of all.
-fn take_it<N: LotName<Tally> + Send + Sync, R: Wait + Abort>(
-    rt: &R,
-    lot: &Lot<N>,
-    one: CountedPass<N>,
-    all: bool,
-) -> CountedPass<N>
-    requires small { IsSmallLot 3 N.locks N.conds N.first_sem lot.now.threads lot.now.keys }
-    ensures { result ≡ called_more one 2 1 }
-{
-    if all {
-        let (one, count) = one.notify_all(rt, lot);
-        count_is(rt, count, 1);
-        one
-    } else {
-        let (one, took) = one.notify_one(rt, lot);
-        is_so(rt, took, "somebody is taken");
-        one
+impl<N: LotName<Tally> + Send + Sync, R: Wait + Abort> OnLot<'_, N, R> {
+    // Waits with the lock 0, and is taken from the line before it sleeps.
+    fn wait_until_taken(&self, here: &mut Place<N>, signs: &Signs)
+        requires thread { IsSomeAnd here.old (λ p. p.thread < 3) }
+        ensures { EndsThere (λ p. one_wait_more p 2) here.old here.new }
+    {
+        let zero = here.take().unwrap();
+        let meets = Meets {
+            rt: self.rt,
+            sign: &signs.queued,
+            other: &signs.taken,
+        };
+        give_back(here, zero.wait(self.rt, self.lot, 0, &meets));
+    }
+
+    // Takes the thread that is in the line, by a notification of one or of all, and says so.
+    fn take_it(&self, one: CountedPass<N>, signs: &Signs, all: bool) -> CountedPass<N>
+        ensures { result ≡ called_more one 2 1 }
+    {
+        is_so(self.rt, is_raised(&signs.queued), "the first waits");
+        if all {
+            let (one, count) = one.notify_all(self.rt, self.lot);
+            count_is(self.rt, count, 1);
+            raise(&signs.taken);
+            one
+        } else {
+            let (one, took) = one.notify_one(self.rt, self.lot);
+            is_so(self.rt, took, "somebody is taken");
+            raise(&signs.taken);
+            one
+        }
+    }
+
+    // The second, which was lent, takes the first.
+    fn take_the_first(&self, here: &mut Place<N>, signs: &Signs, all: bool)
+        requires lent { IsSomeAnd here.old (λ p. p.thread < 3) }
+        ensures { EndsThere (λ p. called_more p 2 1) here.old here.new }
+    {
+        let one = here.take().unwrap();
+        give_back(here, self.take_it(one, signs, all));
     }
 }
 
-// Takes the first once it is in the line, and says so.
-fn take_the_first<N: LotName<Tally> + Send + Sync, R: Wait + Abort>(
-    rt: &R,
-    lot: &Lot<N>,
-    here: &mut Option<CountedPass<N>>,
-    signs: &Signs,
-    all: bool,
-)
-    requires small { IsSmallLot 3 N.locks N.conds N.first_sem lot.now.threads lot.now.keys }
-    requires lent { IsSomeAnd here.old (λ p. p.thread < 3) }
-    ensures { EndsThere (λ p. called_more p 2 1) here.old here.new }
-{
-    let one = here.take().unwrap();
-    is_so(rt, is_raised(&signs.queued), "the first waits");
-    let one = take_it(rt, lot, one, all);
-    raise(&signs.taken);
-    give_back(here, one);
+impl<N: LotName<Tally> + Send + Sync, R: Threads + Wait + Abort + Sync> OnLot<'_, N, R> {
+    // Both at once.
+    fn taken_by_the_second(
+        &self,
+        first: &mut Place<N>,
+        second: &mut Place<N>,
+        signs: &Signs,
+        all: bool,
+    )
+        requires first { IsSomeAnd first.old (λ p. p.thread < 3) }
+        requires second { IsSomeAnd second.old (λ p. p.thread < 3) }
+        ensures first { EndsThere (λ p. one_wait_more p 2) first.old first.new }
+        ensures second { EndsThere (λ p. called_more p 2 1) second.old second.new }
+    {
+        let mut waits = ||
+            requires first { IsSomeAnd first.now (λ p. p.thread < 3) }
+            ensures { EndsThere (λ p. one_wait_more p 2) first.entry.now first.exit.now }
+        { self.wait_until_taken(first, signs) };
+        let mut takes = ||
+            requires second { IsSomeAnd second.now (λ p. p.thread < 3) }
+            ensures { EndsThere (λ p. called_more p 2 1) second.entry.now second.exit.now }
+        { self.take_the_first(second, signs, all) };
+        thread::join_mut(self.rt, &mut waits, &mut takes);
+    }
+
+    // The first waits, and the second takes it before it sleeps: it does not sleep.
+    fn taken_before_sleep(
+        &self,
+        zero: CountedPass<N>,
+        one: CountedPass<N>,
+        all: bool,
+    ) -> (CountedPass<N>, CountedPass<N>)
+        requires threads { (zero.thread ≡ 0) × (one.thread ≡ 1) }
+        ensures zero { result.0 ≡ one_wait_more zero 2 }
+        ensures one { result.1 ≡ called_more one 2 1 }
+    {
+        let signs = Signs::new();
+        let mut first = Some(zero);
+        let mut second = Some(one);
+        self.taken_by_the_second(&mut first, &mut second, &signs, all);
+        let (one, set) = second.unwrap().has_waiters(self.lot);
+        is_not(self.rt, set);
+        (first.unwrap(), one)
+    }
+
+    // The thread is taken from the line before it sleeps, by a notification of one: it does not sleep. Then nobody
+    // waits.
+    fn notified_before_sleep(
+        &self,
+        zero: CountedPass<N>,
+        one: CountedPass<N>,
+    ) -> (CountedPass<N>, CountedPass<N>)
+        requires threads { (zero.thread ≡ 0) × (one.thread ≡ 1) }
+        ensures zero { result.0 ≡ one_wait_more zero 2 }
+        ensures one { result.1 ≡ called_more one 2 1 }
+    {
+        let (zero, one) = self.taken_before_sleep(zero, one, false);
+        (zero, self.notify_nobody(self.notify_no_one(one)))
+    }
 }
 
-// Both at once. The places are lent, since a closure can't hold a waiter.
-fn taken_by_the_second<'a, N: LotName<Tally> + Send + Sync, R: Threads + Wait + Abort + Sync>(
-    rt: &'a R,
-    lot: &'a Lot<N>,
-    first: &'a mut Option<CountedPass<N>>,
-    second: &'a mut Option<CountedPass<N>>,
-    signs: &'a Signs,
-    all: bool,
-)
-    requires small { IsSmallLot 3 N.locks N.conds N.first_sem lot.now.threads lot.now.keys }
-    requires first { IsSomeAnd first.old (λ p. p.thread < 3) }
-    requires second { IsSomeAnd second.old (λ p. p.thread < 3) }
-    ensures first { EndsThere (λ p. one_wait_more p 2) first.old first.new }
-    ensures second { EndsThere (λ p. called_more p 2 1) second.old second.new }
-{
-    let mut waits = ||
-        requires small { IsSmallLot 3 N.locks N.conds N.first_sem lot.now.threads lot.now.keys }
-        requires first { IsSomeAnd first.now (λ p. p.thread < 3) }
-        ensures { EndsThere (λ p. one_wait_more p 2) first.entry.now first.exit.now }
-    { wait_until_taken(rt, lot, first, signs) };
-    let mut takes = ||
-        requires small { IsSmallLot 3 N.locks N.conds N.first_sem lot.now.threads lot.now.keys }
-        requires second { IsSomeAnd second.now (λ p. p.thread < 3) }
-        ensures { EndsThere (λ p. called_more p 2 1) second.entry.now second.exit.now }
-    { take_the_first(rt, lot, second, signs, all) };
-    thread::join_mut(rt, &mut waits, &mut takes);
+impl<N: LotName<Tally> + Send + Sync, R: Wait + Abort> OnLot<'_, N, R> {
+    // A notification of one finds nobody.
+    fn notify_no_one(&self, one: CountedPass<N>) -> CountedPass<N>
+        ensures { result ≡ one }
+    {
+        let (one, took) = one.notify_one(self.rt, self.lot);
+        is_not(self.rt, took);
+        one
+    }
+
+    // A notification of all finds nobody.
+    fn notify_nobody(&self, one: CountedPass<N>) -> CountedPass<N>
+        ensures { result ≡ one }
+    {
+        let (one, count) = one.notify_all(self.rt, self.lot);
+        count_is(self.rt, count, 0);
+        one
+    }
+
+    // Takes both who wait, once the first does, and the flag that the late one set stays. The next notification finds
+    // nobody, and clears it. Then it says that they were taken.
+    fn take_both(&self, one: CountedPass<N>, signs: &Signs) -> CountedPass<N>
+        ensures { result ≡ called_more one 2 2 }
+    {
+        is_so(self.rt, is_raised(&signs.queued), "the first waits");
+        let meets = Meets {
+            rt: self.rt,
+            sign: &signs.cleared,
+            other: &signs.late,
+        };
+        let (one, count) = one.notify_all_after(self.rt, self.lot, &meets);
+        count_is(self.rt, count, 2);
+        let (one, set) = one.has_waiters(self.lot);
+        is_so(self.rt, set, "the flag is set");
+        let one = self.notify_no_one(one);
+        let (one, set) = one.has_waiters(self.lot);
+        is_not(self.rt, set);
+        raise(&signs.taken);
+        one
+    }
+
+    // The second takes the first, and the late one with it.
+    fn take_the_late_too(&self, here: &mut Place<N>, signs: &Signs)
+        requires lent { IsSomeAnd here.old (λ p. p.thread < 3) }
+        ensures { EndsThere (λ p. called_more p 2 2) here.old here.new }
+    {
+        let one = here.take().unwrap();
+        give_back(here, self.take_both(one, signs));
+    }
+
+    // Waits with the lock 1 once the flag was cleared, and says so when it is in the line.
+    fn wait_late(&self, here: &mut Place<N>, signs: &Signs)
+        requires thread { IsSomeAnd here.old (λ p. p.thread < 3) }
+        ensures { EndsThere (λ p. one_wait_more p 2) here.old here.new }
+    {
+        is_so(self.rt, is_raised(&signs.cleared), "the flag is cleared");
+        let two = here.take().unwrap();
+        give_back(here, two.wait(self.rt, self.lot, 1, &Late { signs }));
+    }
 }
 
-// The first waits, and the second takes it before it sleeps: it does not sleep.
-fn taken_before_sleep<N: LotName<Tally> + Send + Sync, R: Threads + Wait + Abort + Sync>(
-    rt: &R,
-    lot: &Lot<N>,
-    zero: CountedPass<N>,
-    one: CountedPass<N>,
-    all: bool,
-) -> (CountedPass<N>, CountedPass<N>)
-    requires small { IsSmallLot 3 N.locks N.conds N.first_sem lot.now.threads lot.now.keys }
-    requires threads { (zero.thread ≡ 0) × (one.thread ≡ 1) }
-    ensures zero { result.0 ≡ one_wait_more zero 2 }
-    ensures one { result.1 ≡ called_more one 2 1 }
-{
-    let signs = Signs::new();
-    let mut first = Some(zero);
-    let mut second = Some(one);
-    taken_by_the_second(rt, lot, &mut first, &mut second, &signs, all);
-    let (one, set) = second.unwrap().has_waiters(lot);
-    is_not(rt, set);
-    (first.unwrap(), one)
-}
+impl<N: LotName<Tally> + Send + Sync, R: Threads + Wait + Abort + Sync> OnLot<'_, N, R> {
+    // Two of the three: the second, which takes, and the late one.
+    fn take_and_come(&self, second: &mut Place<N>, late: &mut Place<N>, signs: &Signs)
+        requires second { IsSomeAnd second.old (λ p. p.thread < 3) }
+        requires late { IsSomeAnd late.old (λ p. p.thread < 3) }
+        ensures second { EndsThere (λ p. called_more p 2 2) second.old second.new }
+        ensures late { EndsThere (λ p. one_wait_more p 2) late.old late.new }
+    {
+        let mut takes = ||
+            requires second { IsSomeAnd second.now (λ p. p.thread < 3) }
+            ensures { EndsThere (λ p. called_more p 2 2) second.entry.now second.exit.now }
+        { self.take_the_late_too(second, signs) };
+        let mut comes = ||
+            requires late { IsSomeAnd late.now (λ p. p.thread < 3) }
+            ensures { EndsThere (λ p. one_wait_more p 2) late.entry.now late.exit.now }
+        { self.wait_late(late, signs) };
+        thread::join_mut(self.rt, &mut takes, &mut comes);
+    }
 
-// The thread is taken from the line before it sleeps, by a notification of one: it does not sleep. Then nobody waits.
-fn notified_before_sleep<N: LotName<Tally> + Send + Sync, R: Threads + Wait + Abort + Sync>(
-    rt: &R,
-    lot: &Lot<N>,
-    zero: CountedPass<N>,
-    one: CountedPass<N>,
-) -> (CountedPass<N>, CountedPass<N>)
-    requires small { IsSmallLot 3 N.locks N.conds N.first_sem lot.now.threads lot.now.keys }
-    requires threads { (zero.thread ≡ 0) × (one.thread ≡ 1) }
-    ensures zero { result.0 ≡ one_wait_more zero 2 }
-    ensures one { result.1 ≡ called_more one 2 1 }
-{
-    let (zero, one) = taken_before_sleep(rt, lot, zero, one, false);
-    let (one, took) = one.notify_one(rt, lot);
-    is_not(rt, took);
-    (zero, notify_nobody(rt, lot, one))
-}
+    // The second and the late one, which were lent.
+    fn take_and_come_lent(&self, here: &mut TwoPlaces<N>, signs: &Signs)
+        requires lent { IsSomeAnd here.old (λ p. (p.0.thread < 3) × (p.1.thread < 3)) }
+        ensures { EndsThere (λ p. (called_more p.0 2 2, one_wait_more p.1 2)) here.old here.new }
+    {
+        let (one, two) = here.take().unwrap();
+        let mut second = Some(one);
+        let mut late = Some(two);
+        self.take_and_come(&mut second, &mut late, signs);
+        give_back(here, (second.unwrap(), late.unwrap()));
+    }
 
-// A notification of all finds nobody.
-fn notify_nobody<N: LotName<Tally> + Send + Sync, R: Wait + Abort>(
-    rt: &R,
-    lot: &Lot<N>,
-    one: CountedPass<N>,
-) -> CountedPass<N>
-    requires small { IsSmallLot 3 N.locks N.conds N.first_sem lot.now.threads lot.now.keys }
-    ensures { result ≡ one }
-{
-    let (one, count) = one.notify_all(rt, lot);
-    count_is(rt, count, 0);
-    one
-}
+    // All three at once.
+    fn side_by_side(&self, first: &mut Place<N>, others: &mut TwoPlaces<N>, signs: &Signs)
+        requires first { IsSomeAnd first.old (λ p. p.thread < 3) }
+        requires others { IsSomeAnd others.old (λ p. (p.0.thread < 3) × (p.1.thread < 3)) }
+        ensures first { EndsThere (λ p. one_wait_more p 2) first.old first.new }
+        ensures others { EndsThere (λ p. (called_more p.0 2 2, one_wait_more p.1 2)) others.old others.new }
+    {
+        let mut waits = ||
+            requires first { IsSomeAnd first.now (λ p. p.thread < 3) }
+            ensures { EndsThere (λ p. one_wait_more p 2) first.entry.now first.exit.now }
+        { self.wait_until_taken(first, signs) };
+        let mut rest = ||
+            requires others { IsSomeAnd others.now (λ p. (p.0.thread < 3) × (p.1.thread < 3)) }
+            ensures { EndsThere (λ p. (called_more p.0 2 2, one_wait_more p.1 2)) others.entry.now others.exit.now }
+        { self.take_and_come_lent(others, signs) };
+        thread::join_mut(self.rt, &mut waits, &mut rest);
+    }
 
-// Takes both who wait, and the flag that the late one set stays. The next notification finds nobody, and clears it.
-fn take_both<N: LotName<Tally> + Send + Sync, R: Wait + Abort>(
-    rt: &R,
-    lot: &Lot<N>,
-    one: CountedPass<N>,
-    signs: &Signs,
-) -> CountedPass<N>
-    requires small { IsSmallLot 3 N.locks N.conds N.first_sem lot.now.threads lot.now.keys }
-    ensures { result ≡ called_more one 2 2 }
-{
-    let (one, count) = one.notify_all_after(rt, lot, &Between { rt, signs });
-    count_is(rt, count, 2);
-    let (one, set) = one.has_waiters(lot);
-    is_so(rt, set, "the flag is set");
-    let (one, took) = one.notify_one(rt, lot);
-    is_not(rt, took);
-    let (one, set) = one.has_waiters(lot);
-    is_not(rt, set);
-    one
-}
-
-// The second takes the first once it is in the line, and the late one with it.
-fn take_the_late_too<N: LotName<Tally> + Send + Sync, R: Wait + Abort>(
-    rt: &R,
-    lot: &Lot<N>,
-    here: &mut Option<CountedPass<N>>,
-    signs: &Signs,
-)
-    requires small { IsSmallLot 3 N.locks N.conds N.first_sem lot.now.threads lot.now.keys }
-    requires lent { IsSomeAnd here.old (λ p. p.thread < 3) }
-    ensures { EndsThere (λ p. called_more p 2 2) here.old here.new }
-{
-    let one = here.take().unwrap();
-    is_so(rt, is_raised(&signs.queued), "the first waits");
-    let one = take_both(rt, lot, one, signs);
-    raise(&signs.taken);
-    give_back(here, one);
-}
-
-// Waits with the lock 1 once the flag was cleared, and says so when it is in the line.
-fn wait_late<N: LotName<Tally> + Send + Sync, R: Wait + Abort>(
-    rt: &R,
-    lot: &Lot<N>,
-    here: &mut Option<CountedPass<N>>,
-    signs: &Signs,
-)
-    requires small { IsSmallLot 3 N.locks N.conds N.first_sem lot.now.threads lot.now.keys }
-    requires thread { IsSomeAnd here.old (λ p. p.thread < 3) }
-    ensures { EndsThere (λ p. one_wait_more p 2) here.old here.new }
-{
-    is_so(rt, is_raised(&signs.cleared), "the flag is cleared");
-    let two = here.take().unwrap();
-    give_back(here, two.wait(rt, lot, 1, &Late { signs }));
-}
-
-// Two of the three: the second, which takes, and the late one.
-fn take_and_come<'a, N: LotName<Tally> + Send + Sync, R: Threads + Wait + Abort + Sync>(
-    rt: &'a R,
-    lot: &'a Lot<N>,
-    second: &'a mut Option<CountedPass<N>>,
-    late: &'a mut Option<CountedPass<N>>,
-    signs: &'a Signs,
-)
-    requires small { IsSmallLot 3 N.locks N.conds N.first_sem lot.now.threads lot.now.keys }
-    requires second { IsSomeAnd second.old (λ p. p.thread < 3) }
-    requires late { IsSomeAnd late.old (λ p. p.thread < 3) }
-    ensures second { EndsThere (λ p. called_more p 2 2) second.old second.new }
-    ensures late { EndsThere (λ p. one_wait_more p 2) late.old late.new }
-{
-    let mut takes = ||
-        requires small { IsSmallLot 3 N.locks N.conds N.first_sem lot.now.threads lot.now.keys }
-        requires second { IsSomeAnd second.now (λ p. p.thread < 3) }
-        ensures { EndsThere (λ p. called_more p 2 2) second.entry.now second.exit.now }
-    { take_the_late_too(rt, lot, second, signs) };
-    let mut comes = ||
-        requires small { IsSmallLot 3 N.locks N.conds N.first_sem lot.now.threads lot.now.keys }
-        requires late { IsSomeAnd late.now (λ p. p.thread < 3) }
-        ensures { EndsThere (λ p. one_wait_more p 2) late.entry.now late.exit.now }
-    { wait_late(rt, lot, late, signs) };
-    thread::join_mut(rt, &mut takes, &mut comes);
-}
-
-// The second and the late one, which were lent.
-fn take_and_come_lent<N: LotName<Tally> + Send + Sync, R: Threads + Wait + Abort + Sync>(
-    rt: &R,
-    lot: &Lot<N>,
-    here: &mut Option<(CountedPass<N>, CountedPass<N>)>,
-    signs: &Signs,
-)
-    requires small { IsSmallLot 3 N.locks N.conds N.first_sem lot.now.threads lot.now.keys }
-    requires lent { IsSomeAnd here.old (λ p. (p.0.thread < 3) × (p.1.thread < 3)) }
-    ensures { EndsThere (λ p. (called_more p.0 2 2, one_wait_more p.1 2)) here.old here.new }
-{
-    let (one, two) = here.take().unwrap();
-    let mut second = Some(one);
-    let mut late = Some(two);
-    take_and_come(rt, lot, &mut second, &mut late, signs);
-    give_back(here, (second.unwrap(), late.unwrap()));
-}
-
-// All three at once.
-fn side_by_side<'a, N: LotName<Tally> + Send + Sync, R: Threads + Wait + Abort + Sync>(
-    rt: &'a R,
-    lot: &'a Lot<N>,
-    first: &'a mut Option<CountedPass<N>>,
-    others: &'a mut Option<(CountedPass<N>, CountedPass<N>)>,
-    signs: &'a Signs,
-)
-    requires small { IsSmallLot 3 N.locks N.conds N.first_sem lot.now.threads lot.now.keys }
-    requires first { IsSomeAnd first.old (λ p. p.thread < 3) }
-    requires others { IsSomeAnd others.old (λ p. (p.0.thread < 3) × (p.1.thread < 3)) }
-    ensures first { EndsThere (λ p. one_wait_more p 2) first.old first.new }
-    ensures others { EndsThere (λ p. (called_more p.0 2 2, one_wait_more p.1 2)) others.old others.new }
-{
-    let mut waits = ||
-        requires small { IsSmallLot 3 N.locks N.conds N.first_sem lot.now.threads lot.now.keys }
-        requires first { IsSomeAnd first.now (λ p. p.thread < 3) }
-        ensures { EndsThere (λ p. one_wait_more p 2) first.entry.now first.exit.now }
-    { wait_until_taken(rt, lot, first, signs) };
-    let mut rest = ||
-        requires small { IsSmallLot 3 N.locks N.conds N.first_sem lot.now.threads lot.now.keys }
-        requires others { IsSomeAnd others.now (λ p. (p.0.thread < 3) × (p.1.thread < 3)) }
-        ensures { EndsThere (λ p. (called_more p.0 2 2, one_wait_more p.1 2)) others.entry.now others.exit.now }
-    { take_and_come_lent(rt, lot, others, signs) };
-    thread::join_mut(rt, &mut waits, &mut rest);
-}
-
-// A thread begins to wait after the flag was cleared and before the line is taken: it is taken with the one that waited
-// before.
-fn taken_after_the_flag_was_cleared<
-    N: LotName<Tally> + Send + Sync,
-    R: Threads + Wait + Abort + Sync,
->(
-    rt: &R,
-    lot: &Lot<N>,
-    zero: CountedPass<N>,
-    one: CountedPass<N>,
-    two: CountedPass<N>,
-) -> (CountedPass<N>, CountedPass<N>, CountedPass<N>)
-    requires small { IsSmallLot 3 N.locks N.conds N.first_sem lot.now.threads lot.now.keys }
-    requires threads { (zero.thread ≡ 0) × (one.thread ≡ 1) × (two.thread ≡ 2) }
-    ensures zero { result.0 ≡ one_wait_more zero 2 }
-    ensures one { result.1 ≡ called_more one 2 2 }
-    ensures two { result.2 ≡ one_wait_more two 2 }
-{
-    let signs = Signs::new();
-    let mut first = Some(zero);
-    let mut others = Some((one, two));
-    side_by_side(rt, lot, &mut first, &mut others, &signs);
-    let (one, two) = others.unwrap();
-    (first.unwrap(), one, two)
+    // A thread begins to wait after the flag was cleared and before the line is taken: it is taken with the one that
+    // waited before.
+    fn taken_after_the_flag_was_cleared(
+        &self,
+        zero: CountedPass<N>,
+        one: CountedPass<N>,
+        two: CountedPass<N>,
+    ) -> (CountedPass<N>, CountedPass<N>, CountedPass<N>)
+        requires threads { (zero.thread ≡ 0) × (one.thread ≡ 1) × (two.thread ≡ 2) }
+        ensures zero { result.0 ≡ one_wait_more zero 2 }
+        ensures one { result.1 ≡ called_more one 2 2 }
+        ensures two { result.2 ≡ one_wait_more two 2 }
+    {
+        let signs = Signs::new();
+        let mut first = Some(zero);
+        let mut others = Some((one, two));
+        self.side_by_side(&mut first, &mut others, &signs);
+        let (one, two) = others.unwrap();
+        (first.unwrap(), one, two)
+    }
 }
 
 // Whoever is told of an unparking of the condition does this, while its bucket is locked: nobody waits. Written for
@@ -431,69 +389,47 @@ fn under_the_lock<S: Scheme, X, F: FnOnce(X) -> X, R: Wait + Abort>(
     x
 }
 
-// A notification while the bucket of the condition is locked: nobody waits, so it locks none.
-fn notifies_under_the_lock<N: LotName<Tally> + Send + Sync, R: Wait + Abort>(
-    rt: &R,
-    lot: &Lot<N>,
-    one: CountedPass<N>,
-) -> CountedPass<N>
-    requires small { IsSmallLot 3 N.locks N.conds N.first_sem lot.now.threads lot.now.keys }
-    ensures { result ≡ one }
-{
-    under_the_lock(
-        rt,
-        lot,
-        one,
-        |one: CountedPass<N>| -> CountedPass<N>
-            requires small { IsSmallLot 3 N.locks N.conds N.first_sem lot.now.threads lot.now.keys }
+impl<N: LotName<Tally> + Send + Sync, R: Wait + Abort> OnLot<'_, N, R> {
+    // A notification while the bucket of the condition is locked: nobody waits, so it locks none.
+    fn notifies_under_the_lock(&self, one: CountedPass<N>) -> CountedPass<N>
+        ensures { result ≡ one }
+    {
+        let notifies = |one: CountedPass<N>| -> CountedPass<N>
             ensures { result ≡ one }
-        {
-            let (one, took) = one.notify_one(rt, lot);
-            is_not(rt, took);
-            one
-        },
-    )
+        { self.notify_no_one(one) };
+        under_the_lock(self.rt, self.lot, one, notifies)
+    }
 }
 
-// Plays all schedules.
-fn played<N: LotName<Tally> + Send + Sync, R: Threads + Wait + Abort + Sync>(
-    rt: &R,
-    lot: &Lot<N>,
-    three: Three<N>,
-) -> Three<N>
-    requires small { IsSmallLot 3 N.locks N.conds N.first_sem lot.now.threads lot.now.keys }
-{
-    let Three { zero, one, two } = three;
-    let one = notifies_under_the_lock(rt, lot, one);
-    let (zero, one) = notified_before_sleep(rt, lot, zero, one);
-    let (zero, one) = taken_before_sleep(rt, lot, zero, one, true);
-    let (zero, one, two) = taken_after_the_flag_was_cleared(rt, lot, zero, one, two);
-    Three { zero, one, two }
+impl<N: LotName<Tally> + Send + Sync, R: Threads + Wait + Abort + Sync> OnLot<'_, N, R> {
+    // Plays all schedules.
+    fn played(&self, three: Three<N>) -> Three<N> {
+        let Three { zero, one, two } = three;
+        let one = self.notifies_under_the_lock(one);
+        let (zero, one) = self.notified_before_sleep(zero, one);
+        let (zero, one) = self.taken_before_sleep(zero, one, true);
+        let (zero, one, two) = self.taken_after_the_flag_was_cleared(zero, one, two);
+        Three { zero, one, two }
+    }
 }
 
 // Plays on a lot, and closes it: what the ledger then says.
 fn play<N: LotName<Tally> + Send + Sync, R: Threads + Wait + Abort + Sync>(
     rt: &R,
     alloc: Global,
-    words: Words,
-    mut passes: Passes,
-    mut roots: Roots,
+    opened: Opened,
 ) -> Ledger
-    requires named { (words.table ≡ N.opening.locks) × (words.size ≡ size_of 2 1) }
-    requires names { (N.threads ≡ 3) × (N.permits ≡ []) }
-    requires small { IsSmall N.locks N.conds N.first_sem }
-    requires passes { AreDealt words.table 2 1 passes.items }
-    requires roots { AreFreshRoots words.table 2 1 roots.items }
+    requires opened { IsOpened 2 1 N.opening.locks opened.0.table opened.0.size opened.1.items opened.2.items }
+    requires named { (N.threads ≡ 3) × (N.permits ≡ []) × IsSmall N.locks N.conds N.first_sem }
 {
+    let (words, mut passes, mut roots) = opened;
     let Ok(room) = Room::new(alloc, 1) else {
         failed(rt, "no memory")
     };
     let (three, sums) = deal_waiters::<N>(&mut passes, room);
-    let Ok(named) = name_roots::<N>(alloc, &mut roots) else {
-        failed(rt, "no memory")
-    };
+    let named = name_roots::<N>(rt, alloc, &mut roots);
     let (lot, mut back) = opened_lot(rt, alloc, THREADS, named, LotScheme::new(words, 2, 3));
-    let three = played(rt, &lot, three);
+    let three = OnLot { rt, lot: &lot }.played(three);
     let words = lot.close(rt, &mut back).into_words();
     unname_roots(&mut roots, back);
     settle(words, passes, roots, three, sums)
@@ -501,9 +437,9 @@ fn play<N: LotName<Tally> + Send + Sync, R: Threads + Wait + Abort + Sync>(
 
 #[test]
 fn waits_and_notifications(rt: HostRuntime) {
-    let Ok((words, passes, roots)) = open_words(rt.alloc(), 2, 1) else {
+    let Ok(opened) = open_words(rt.alloc(), 2, 1) else {
         failed(&rt, "no memory")
     };
-    let ledger = play::<Brand, HostRuntime>(&rt, rt.alloc(), words, passes, roots);
+    let ledger = play::<Brand, HostRuntime>(&rt, rt.alloc(), opened);
     ledger_is(&rt, &ledger, &[4]);
 }

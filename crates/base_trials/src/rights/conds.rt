@@ -2,155 +2,139 @@
 //! The condition's number is 1, since there is one lock.
 ghost use Rattle.std.specs.Prelude.{◌≡◌, None};
 ghost use Rattle.lot_conds.specs.Calls.{called_more, one_wait_more};
-ghost use Rattle.base_trials.specs.CondSchedules.{IsFree, IsEmpty};
+ghost use Rattle.base_trials.specs.CondSchedules.{IsFree, AreFree};
 
-use crate::asserts::{bits_are, is_so, letter_is};
+use crate::asserts::{bits_are, equal, is_so, letter_is};
 use crate::taking::take_three;
 use lot_conds::{CondPass, CondRoot, CondWords};
 use std::process::Abort;
 use std::test::*;
 
-// Collects a letter, which lies there.
-fn collect(rt: &impl Abort, words: &CondWords, pass: CondPass) -> CondPass
-    requires { (pass.table ≡ words.now.table) × (pass.own.sweeps ≡ None) }
-    ensures { IsFree words.now.table pass.thread result }
-{
-    let (pass, letter) = words.collect(pass);
-    letter_is(rt, letter, Some(0));
-    pass
+/// The passes of three threads, and the root of the condition.
+type Rights = (CondPass, CondPass, CondPass, CondRoot);
+
+/// The condition, on which three threads make their calls.
+#[derive(Drop)]
+struct OneCond<'a, R> {
+    rt: &'a R,
+    words: &'a CondWords,
+    ghost one: { (words.now.size.locks ≡ 1) × (words.now.size.conds ≡ 1) },
 }
 
-// One wait, which one notification ends: it is counted with both threads.
-fn one_wait(
-    rt: &impl Abort,
-    words: &CondWords,
-    zero: CondPass,
-    one: CondPass,
-    root: CondRoot,
-) -> (CondPass, CondPass, CondRoot)
-    requires size { (words.now.size.locks ≡ 1) × (words.now.size.conds ≡ 1) }
-    requires zero { IsFree words.now.table 0 zero }
-    requires one { IsFree words.now.table 1 one }
-    requires root { IsEmpty words.now.table root }
-    ensures zero { IsFree words.now.table 0 result.0 × (result.0.own ≡ one_wait_more zero.own 1) }
-    ensures one { IsFree words.now.table 1 result.1 × (result.1.own ≡ called_more one.own 1 1) }
-    ensures root { IsEmpty words.now.table result.2 }
-{
-    bits_are(rt, words.bits(1), 0);
-    let (zero, root) = words.enlist(zero, root);
-    bits_are(rt, words.bits(1), 1);
-    let (one, set) = words.look(one, 1);
-    is_so(rt, set, "the flag is set");
-    let (one, root) = words.call(one, root, 1, 1, false);
-    bits_are(rt, words.bits(1), 0);
-    let (zero, letter) = words.collect(zero);
-    letter_is(rt, letter, None);
-    let root = words.post(root, 0);
-    let (zero, letter) = words.collect(zero);
-    letter_is(rt, letter, Some(0));
-    (zero, one, root)
-}
+impl<R: Abort> OneCond<'_, R> {
+    // The word of the condition is this.
+    fn word_is(&self, bits: u64) {
+        bits_are(self.rt, self.words.bits(1), bits);
+    }
 
-// One thread lowers the flag, another comes to wait, and the first sweeps it. The flag stays set, and the next call,
-// which finds nobody, clears it.
-fn late_wait(
-    rt: &impl Abort,
-    words: &CondWords,
-    zero: CondPass,
-    one: CondPass,
-    root: CondRoot,
-) -> (CondPass, CondPass, CondRoot)
-    requires size { (words.now.size.locks ≡ 1) × (words.now.size.conds ≡ 1) }
-    requires zero { IsFree words.now.table 0 zero }
-    requires one { IsFree words.now.table 1 one }
-    requires root { IsEmpty words.now.table root }
-    ensures zero { IsFree words.now.table 0 result.0 }
-    ensures one { IsFree words.now.table 1 result.1 }
-    ensures root { IsEmpty words.now.table result.2 }
-{
-    let zero = words.lower(zero, 1);
-    bits_are(rt, words.bits(1), 0);
-    let (one, root) = words.enlist(one, root);
-    bits_are(rt, words.bits(1), 1);
-    let (zero, root) = words.sweep(zero, root, 1);
-    bits_are(rt, words.bits(1), 1);
-    let root = words.post(root, 1);
-    let (zero, root) = words.call(zero, root, 1, 0, true);
-    bits_are(rt, words.bits(1), 0);
-    (zero, collect(rt, words, one), root)
-}
+    // Collects a letter, which lies there.
+    fn collect(&self, pass: CondPass) -> CondPass
+        requires { (pass.table ≡ self.now.words.now.table) × (pass.own.sweeps ≡ None) }
+        ensures { IsFree self.now.words.now.table pass.thread result }
+    {
+        let (pass, letter) = self.words.collect(pass);
+        letter_is(self.rt, letter, Some(0));
+        pass
+    }
 
-// Two wait, and a third thread notifies. Its first call takes one and leaves the flag, since one is left; the second
-// asks for four, takes the other, and leaves the flag because another key of the bucket has sleepers. The letters are
-// posted in the other order.
-fn two_waits(
-    rt: &impl Abort,
-    words: &CondWords,
-    zero: CondPass,
-    one: CondPass,
-    two: CondPass,
-    root: CondRoot,
-) -> (CondPass, CondPass, CondPass, CondRoot)
-    requires size { (words.now.size.locks ≡ 1) × (words.now.size.conds ≡ 1) }
-    requires zero { IsFree words.now.table 0 zero }
-    requires one { IsFree words.now.table 1 one }
-    requires two { IsFree words.now.table 2 two }
-    requires root { IsEmpty words.now.table root }
-    ensures zero { IsFree words.now.table 0 result.0 }
-    ensures one { IsFree words.now.table 1 result.1 }
-    ensures two { IsFree words.now.table 2 result.2 }
-    ensures root { IsEmpty words.now.table result.3 }
-{
-    let (zero, root) = words.enlist(zero, root);
-    let (one, root) = words.enlist(one, root);
-    let (two, root) = words.call(two, root, 1, 1, true);
-    bits_are(rt, words.bits(1), 1);
-    let (two, root) = words.call(two, root, 4, 1, true);
-    bits_are(rt, words.bits(1), 1);
-    let root = words.post(root, 1);
-    let root = words.post(root, 0);
-    (collect(rt, words, zero), collect(rt, words, one), two, root)
-}
+    // All schedules, one after the other.
+    fn in_turn(&self, rights: Rights) -> Rights
+        requires { AreFree self.now.words.now.table rights.0 rights.1 rights.2 rights.3 }
+        ensures { AreFree self.now.words.now.table result.0 result.1 result.2 result.3 }
+    {
+        let rights = self.one_wait(rights);
+        let rights = self.late_wait(rights);
+        let rights = self.two_waits(rights);
+        self.two_at_once(rights)
+    }
 
-// The same two, whom one call takes together.
-fn two_at_once(
-    rt: &impl Abort,
-    words: &CondWords,
-    zero: CondPass,
-    one: CondPass,
-    two: CondPass,
-    root: CondRoot,
-) -> (CondPass, CondPass, CondPass, CondRoot)
-    requires size { (words.now.size.locks ≡ 1) × (words.now.size.conds ≡ 1) }
-    requires zero { IsFree words.now.table 0 zero }
-    requires one { IsFree words.now.table 1 one }
-    requires two { IsFree words.now.table 2 two }
-    requires root { IsEmpty words.now.table root }
-    ensures zero { IsFree words.now.table 0 result.0 }
-    ensures one { IsFree words.now.table 1 result.1 }
-    ensures two { IsFree words.now.table 2 result.2 × (result.2.own ≡ called_more two.own 1 2) }
-    ensures root { IsEmpty words.now.table result.3 }
-{
-    let (zero, root) = words.enlist(zero, root);
-    let (one, root) = words.enlist(one, root);
-    let (two, root) = words.call(two, root, 2, 2, false);
-    bits_are(rt, words.bits(1), 0);
-    let root = words.post(root, 0);
-    let root = words.post(root, 1);
-    (collect(rt, words, zero), collect(rt, words, one), two, root)
+    // One wait, which one notification ends: it is counted with both threads.
+    fn one_wait(&self, rights: Rights) -> Rights
+        requires { AreFree self.now.words.now.table rights.0 rights.1 rights.2 rights.3 }
+        ensures free { AreFree self.now.words.now.table result.0 result.1 result.2 result.3 }
+        ensures counted { (result.0.own ≡ one_wait_more rights.0.own 1) × (result.1.own ≡ called_more rights.1.own 1 1) }
+    {
+        let (zero, one, two, root) = rights;
+        self.word_is(0);
+        let (zero, root) = self.words.enlist(zero, root);
+        self.word_is(1);
+        let (one, set) = self.words.look(one, 1);
+        is_so(self.rt, set, "the flag is set");
+        let (one, root) = self.words.call(one, root, 1, 1, false);
+        self.word_is(0);
+        let (zero, letter) = self.words.collect(zero);
+        letter_is(self.rt, letter, None);
+        let root = self.words.post(root, 0);
+        let (zero, letter) = self.words.collect(zero);
+        letter_is(self.rt, letter, Some(0));
+        (zero, one, two, root)
+    }
+
+    // One thread lowers the flag, another comes to wait, and the first sweeps it. The flag stays set, and the next
+    // call, which finds nobody, clears it.
+    fn late_wait(&self, rights: Rights) -> Rights
+        requires { AreFree self.now.words.now.table rights.0 rights.1 rights.2 rights.3 }
+        ensures { AreFree self.now.words.now.table result.0 result.1 result.2 result.3 }
+    {
+        let (zero, one, two, root) = rights;
+        let zero = self.words.lower(zero, 1);
+        self.word_is(0);
+        let (one, root) = self.words.enlist(one, root);
+        self.word_is(1);
+        let (zero, root) = self.words.sweep(zero, root, 1);
+        self.word_is(1);
+        let root = self.words.post(root, 1);
+        let (zero, root) = self.words.call(zero, root, 1, 0, true);
+        self.word_is(0);
+        (zero, self.collect(one), two, root)
+    }
+
+    // Two wait, and a third thread notifies. Its first call takes one and leaves the flag, since one is left; the
+    // second asks for four, takes the other, and leaves the flag because another key of the bucket has sleepers. The
+    // letters are posted in the other order.
+    fn two_waits(&self, rights: Rights) -> Rights
+        requires { AreFree self.now.words.now.table rights.0 rights.1 rights.2 rights.3 }
+        ensures { AreFree self.now.words.now.table result.0 result.1 result.2 result.3 }
+    {
+        let (zero, one, two, root) = rights;
+        let (zero, root) = self.words.enlist(zero, root);
+        let (one, root) = self.words.enlist(one, root);
+        let (two, root) = self.words.call(two, root, 1, 1, true);
+        self.word_is(1);
+        let (two, root) = self.words.call(two, root, 4, 1, true);
+        self.word_is(1);
+        let root = self.words.post(root, 1);
+        let root = self.words.post(root, 0);
+        (self.collect(zero), self.collect(one), two, root)
+    }
+
+    // The same two, whom one call takes together.
+    fn two_at_once(&self, rights: Rights) -> Rights
+        requires { AreFree self.now.words.now.table rights.0 rights.1 rights.2 rights.3 }
+        ensures free { AreFree self.now.words.now.table result.0 result.1 result.2 result.3 }
+        ensures counted { result.2.own ≡ called_more rights.2.own 1 2 }
+    {
+        let (zero, one, two, root) = rights;
+        let (zero, root) = self.words.enlist(zero, root);
+        let (one, root) = self.words.enlist(one, root);
+        let (two, root) = self.words.call(two, root, 2, 2, false);
+        self.word_is(0);
+        let root = self.words.post(root, 0);
+        let root = self.words.post(root, 1);
+        (self.collect(zero), self.collect(one), two, root)
+    }
 }
 
 #[test]
 fn waits_and_notifications(rt: HostRuntime) -> Result<(), Fail> {
-    let Ok((words, mut passes, mut roots)) = CondWords::open(rt.alloc(), 3, 1, 1) else {
-        return Err("no memory".into());
-    };
+    let (words, mut passes, mut roots) = CondWords::open(rt.alloc(), 3, 1, 1)?;
     let (zero, one, two) = take_three(&mut passes);
     let root = roots.take_last();
-    let (zero, one, root) = one_wait(&rt, &words, zero, one, root);
-    let (zero, one, root) = late_wait(&rt, &words, zero, one, root);
-    let (zero, one, two, root) = two_waits(&rt, &words, zero, one, two, root);
-    let (zero, one, two, root) = two_at_once(&rt, &words, zero, one, two, root);
+    let cond = OneCond {
+        rt: &rt,
+        words: &words,
+    };
+    let (zero, one, two, root) = cond.in_turn((zero, one, two, root));
     passes.push_reserved(zero);
     passes.push_reserved(one);
     passes.push_reserved(two);
@@ -161,13 +145,9 @@ fn waits_and_notifications(rt: HostRuntime) -> Result<(), Fail> {
 
 #[test]
 fn no_conditions(rt: HostRuntime) -> Result<(), Fail> {
-    let Ok((words, mut passes, roots)) = CondWords::open(rt.alloc(), 1, 1, 0) else {
-        return Err("no memory".into());
-    };
-    assert_eq!(rt; passes.len(), 1);
-    assert_eq!(rt; roots.len(), 0);
+    let (words, mut passes, roots) = CondWords::open(rt.alloc(), 1, 1, 0)?;
     let zero = passes.take_last();
-    assert_eq!(rt; zero.thread(), 0);
+    equal(&rt, (passes.len(), roots.len(), zero.thread()), (0, 0, 0));
     passes.push_reserved(zero);
     words.close(passes, roots);
     Ok(())

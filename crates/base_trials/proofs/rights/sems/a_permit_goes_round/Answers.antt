@@ -13,33 +13,33 @@ use Rattle.base_trials.proofs.Dealt.{three_taken, three_back}
 use Rattle.base_trials.proofs.SemSchedules.{opened_one, fresh_is_free, fresh_is_empty}
 use Rattle.base_trials.proofs.rights.sems.a_permit_goes_round.Goals as goal
 
-pub one_permit-zero-requires : goal.one_permit-zero-requires
-one_permit-zero-requires g c =
-    let words = c.in-Ok-open.words in
-    let given : length c.in-Ok.permits.items ≡ 1 = sym c.in-Ok.permits.ok.0 ∙ c.in-Ok.ensures.len in
-    let is_one = opened_one words.size 3 c.in-Ok.permits.items c.in-Ok-open.ensures.size given in
-    let len : length c.in-Ok-open.passes.items ≡ 3 = search rules in
+pub one_permit-rights-requires : goal.one_permit-rights-requires
+one_permit-rights-requires g c =
+    let words = c.in_ok-words.words in
+    let given : length c.in_ok-permits.permits.items ≡ 1 = sym c.in_ok-permits.permits.ok.0 ∙ c.in_ok-permits.ensures.len in
+    let is_one = opened_one words.size 3 c.in_ok-permits.permits.items c.in_ok-words.ensures.size given in
+    let len : length c.in_ok-words.passes.items ≡ 3 = search rules in
     let free = three_taken (pass_at (meaning words.size) words.table) (IsFree words.table) (fresh_is_free words.size words.table is_one)
     _ _ _ _ _ _ _ c.take_three-zero.ensures.taken refl refl
-    (len, c.in-Ok-open.ensures.passes.1) in
-    let lone : length c.in-Ok-open.roots.items ≡ 1 = sym c.in-Ok-open.roots.ok.0 ∙ (c.in-Ok-open.ensures.roots.0 ∙ c.in-Ok.ensures.len) in
+    (len, c.in_ok-words.ensures.passes.1) in
+    let lone : length c.in_ok-words.roots.items ≡ 1 = sym c.in_ok-words.roots.ok.0 ∙ (c.in_ok-words.ensures.roots.0 ∙ c.in_ok-permits.ensures.len) in
     let root = dealt_last (λ k. root_at (meaning words.size) words.table (1 + k)) 0 _ _ _ c.take_last-root.ensures.items
-    (lone, λ k h. c.in-Ok-open.ensures.roots.1 k (omega (arith, h, c.in-Ok.ensures.len))) in
-    record { size = is_one; zero = free.0; one = free.1; two = free.2; root = fresh_is_empty words.size words.table is_one _ root.0 }
+    (lone, λ k h. c.in_ok-words.ensures.roots.1 k (omega (arith, h, c.in_ok-permits.ensures.len))) in
+    (free.0, free.1, free.2, fresh_is_empty words.size words.table is_one _ root.0)
 
 pub close_soundly-requires-clause-passes : goal.close_soundly-requires-clause-passes
 close_soundly-requires-clause-passes g c =
     let back = three_back (λ (p : PassShown SemPassView). p.thread) _ _ _ _ _ c.push_reserved.ensures.items c.push_reserved-2.ensures.items
-    c.late_release-zero.ensures.zero.0.1 c.late_release-zero.ensures.one.0.1 _ _ c.push_reserved-3.ensures.items
-    c.two_sleepers-zero.ensures.two.0.1 in
-    let three : c.in-Ok-open.words.size.threads ≡ 3 = ap (λ (z : Numbers). z.threads) c.in-Ok-open.ensures.size in
+    c.late_release-zero.ensures.0.0.1 c.late_release-zero.ensures.1.0.1 _ _ c.push_reserved-3.ensures.items
+    c.late_release-zero.ensures.2.0.1 in
+    let three : c.in_ok-words.words.size.threads ≡ 3 = ap (λ (z : Numbers). z.threads) c.in_ok-words.ensures.size in
     λ t near. back t (omega (arith, near, three))
 
 pub close_soundly-requires-clause-roots : goal.close_soundly-requires-clause-roots
 close_soundly-requires-clause-roots g c d among =
     let mine = λ (q : RootShown SemRootView). q.key ≡ d in
-    let is_one = opened_one c.in-Ok-open.words.size 3 c.in-Ok.permits.items c.in-Ok-open.ensures.size (sym c.in-Ok.permits.ok.0
-    ∙ c.in-Ok.ensures.len) in
-    let key : c.late_release-zero.result.2.key ≡ d =
-    omega (arith, c.late_release-zero.ensures.root.1, among.0, among.1, is_one.0, is_one.1) in
-    subst (Any mine) (sym c.push_reserved-4.ensures.items) (Any-push mine c.take_last-root.new.self.items c.late_release-zero.result.2 key)
+    let is_one = opened_one c.in_ok-words.words.size 3 c.in_ok-permits.permits.items c.in_ok-words.ensures.size (sym c.in_ok-permits.permits.ok.0
+    ∙ c.in_ok-permits.ensures.len) in
+    let key : c.late_release-zero.result.3.key ≡ d =
+    omega (arith, c.late_release-zero.ensures.3.1, among.0, among.1, is_one.0, is_one.1) in
+    subst (Any mine) (sym c.push_reserved-4.ensures.items) (Any-push mine c.take_last-root.new.self.items c.late_release-zero.result.3 key)

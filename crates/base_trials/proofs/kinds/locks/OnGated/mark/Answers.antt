@@ -1,5 +1,5 @@
 use Rattle.base_trials.proofs.Calm.{may_line_up, wants_on}
-use Rattle.base_trials.proofs.kinds.locks.mark.Goals as goal
+use Rattle.base_trials.proofs.kinds.locks.OnGated.mark.Goals as goal
 
 pub mark-pass-requires-clause-may : goal.mark-pass-requires-clause-may
 mark-pass-requires-clause-may g c = may_line_up c.requires.pass.0 0 c.args.pass c.requires.pass.1

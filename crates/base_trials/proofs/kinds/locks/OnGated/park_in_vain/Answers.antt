@@ -1,10 +1,10 @@
 use Rattle.std.proofs.Common.{arith}
 use Rattle.base_trials.proofs.Calm.{trying, tried_wants}
-use Rattle.base_trials.proofs.kinds.locks.park_in_vain.Goals as goal
+use Rattle.base_trials.proofs.kinds.locks.OnGated.park_in_vain.Goals as goal
 
 pub park-pass-requires-clause-parks : goal.park-pass-requires-clause-parks
 park-pass-requires-clause-parks g c κs within =
-    let two = c.requires.small.0.0 in
+    let two = c.args.self.now.small.0.0 in
     trying g.N.LotName.locks c.requires.pass.0 0 c.args.pass (omega (arith, two)) c.requires.pass.1
 
 pub returns : goal.returns
