@@ -2,9 +2,10 @@
 ghost use Rattle.std.specs.Prelude.{◌≡◌, map, string_bytes, IfOk};
 
 use crate::failure::Failure;
+use crate::outcome::fail;
 use std::alloc::Global;
 use std::env::{self, Env, FillError};
-use std::io;
+use std::io::{self, Write};
 
 /// The arguments after the program's own name, which need not be text.
 #[derive(Drop)]
@@ -49,4 +50,26 @@ pub fn texts_of(alloc: Global, words: &[String]) -> Result<Vec<&str>, Failure>
         texts.push_reserved(words[i].as_str());
     }
     Ok(texts)
+}
+
+/// Runs what the words spell that follow the program's name, and answers the exit status: that of the run, or, where the
+/// words can't be had, that of the failure whose text is written to `faults`.
+/// `with_words(&rt, alloc, &mut rt.stderr(), |words| run_command(alloc, words, &mut rt.stdout()))`.
+pub fn with_words<E: Env, W: Write, F: FnOnce(&[&str]) -> u8>(
+    rt: &E,
+    alloc: Global,
+    faults: &mut W,
+    run: F,
+) -> u8
+    requires callable { F.IsAlwaysCallable run }
+    ensures ran { result ≡ 0 → (texts : _) × F.post run texts 0 }
+{
+    let words = match words(rt, alloc) {
+        Ok(words) => words,
+        Err(failure) => return fail(failure, faults),
+    };
+    match texts_of(alloc, words.as_slice()) {
+        Ok(texts) => run(texts.as_slice()),
+        Err(failure) => fail(failure, faults),
+    }
 }

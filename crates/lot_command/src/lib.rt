@@ -23,7 +23,7 @@ mod numbers;
 mod outcome;
 mod script;
 
-pub use arguments::{texts_of, words};
+pub use arguments::{texts_of, with_words, words};
 pub use failure::Failure;
 pub use numbers::number;
 pub use outcome::{report, text_of};

@@ -34,11 +34,16 @@ pub fn report<W: Write, E: Write>(
     });
     match written {
         Ok(()) => 0,
-        Err(failure) => {
-            tell(failure, faults);
-            failure.status()
-        }
+        Err(failure) => fail(failure, faults),
     }
+}
+
+/// Writes the failure to `faults`, and answers its exit status.
+pub(crate) fn fail<E: Write>(failure: Failure, faults: &mut E) -> u8
+    ensures { 1 ≤ result }
+{
+    tell(failure, faults);
+    failure.status()
 }
 
 /// Writes the fault's line by one write, so that the lines of several programs never mix. A fault that cannot be

@@ -5,37 +5,19 @@
 //! them.
 #![tactic(auto)]
 
-use lot_command::{report, texts_of, words};
+use lot_command::with_words;
 use lot_draw::run_command;
 use std::fs::File;
 use std::process::ExitCode;
 
 fn main(rt: HostRuntime) -> ExitCode {
     let alloc = rt.alloc();
-    let words = match words(&rt, alloc) {
-        Ok(words) => words,
-        Err(failure) => {
-            let status = report(Err(failure), &mut rt.stdout(), &mut rt.stderr());
-            return ExitCode::from(status);
-        }
+    let draw = |words: &[&str]| -> u8 {
+        let file = match words {
+            [path] => File::open(&rt, *path).ok(),
+            _ => None,
+        };
+        run_command(alloc, words, file, &mut rt.stdout(), &mut rt.stderr())
     };
-    let texts = match texts_of(alloc, words.as_slice()) {
-        Ok(texts) => texts,
-        Err(failure) => {
-            let status = report(Err(failure), &mut rt.stdout(), &mut rt.stderr());
-            return ExitCode::from(status);
-        }
-    };
-    let file = match texts.as_slice() {
-        [path] => File::open(&rt, *path).ok(),
-        _ => None,
-    };
-    let status = run_command(
-        alloc,
-        texts.as_slice(),
-        file,
-        &mut rt.stdout(),
-        &mut rt.stderr(),
-    );
-    ExitCode::from(status)
+    ExitCode::from(with_words(&rt, alloc, &mut rt.stderr(), draw))
 }
