@@ -2,14 +2,13 @@
 ghost use Rattle.std.specs.Prelude.{◌≤◌, IfSome};
 ghost use Rattle.lot_load.specs.declared.spread.TheConstants.{MOST_LOCKS};
 
-use crate::contend::contend;
 use crate::count::{Counting, count};
 use crate::gate::OpenGate;
 use crate::many::many;
 use crate::pool::{Pooling, pool};
 use crate::relay::{Relaying, relay};
 use crate::replay::replay;
-use crate::spread::{MOST_LOCKS, Spreading};
+use crate::spread::{Draw, MOST_LOCKS, Spreading};
 use crate::witness::witness;
 use lot_command::{Failure, number, report, text_of};
 use lot_core::{MAX_KEYS, MAX_THREADS};
@@ -91,8 +90,14 @@ fn run<T: Threads + Wait + Sync>(rt: &T, alloc: Global, words: &[&str]) -> Resul
         "count" => count(rt, alloc, &OpenGate, &counting(numbers).ok_or(bad)?),
         "relay" => relay(rt, alloc, &OpenGate, &relaying(numbers).ok_or(bad)?),
         "pool" => pool(rt, alloc, &OpenGate, &pooling(numbers).ok_or(bad)?),
-        "many" => many(rt, alloc, &spreading(numbers, MOST_LOCKS).ok_or(bad)?),
-        "contend" => contend(rt, alloc, &spreading(numbers, MAX_KEYS).ok_or(bad)?),
+        "many" => {
+            let many_locks = spreading(numbers, MOST_LOCKS).ok_or(bad)?;
+            many(rt, alloc, &many_locks, Draw::Evenly)
+        }
+        "contend" => {
+            let few_locks = spreading(numbers, MAX_KEYS).ok_or(bad)?;
+            many(rt, alloc, &few_locks, Draw::Hot)
+        }
         _ => Err(bad),
     }
 }

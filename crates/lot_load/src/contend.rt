@@ -1,60 +1,21 @@
-//! `contend`: threads that count under locks of which some are hotter than others, and which locks they waited for.
-ghost use Rattle.std.specs.Prelude.{◌≡◌, ◌<◌, length, map, IfOk};
-ghost use Rattle.lot_sync.specs.Opened.{IsNamed};
+//! What `contend` tells besides `many`: which locks its threads waited for.
+ghost use Rattle.std.specs.Prelude.{◌≡◌, ◌<◌, map, IfOk};
 ghost use Rattle.lot_load.specs.Hottest.{TakesHottest, IsHottestOf};
 
-use crate::measure::value::Number;
-use crate::spread::{Draw, Spreading, print_total, spread};
-use crate::workers::open;
-use lot_calls::{leave_all, start_counting_with_passes, take_all};
 use lot_command::Failure;
-use lot_sync::{Contention, LotName, Opened};
+use lot_sync::Contention;
 use std::alloc::{AllocError, Global};
 use std::fmt::Write as _;
-use std::marker::Brand;
-use std::sync::Wait;
-use std::thread::Threads;
 
 /// How many locks are told of at most.
 const MOST_TOLD: usize = 8;
 
-/// What all locks counted together, how many rounds the threads went, and the locks that were waited for most, printed.
-pub(crate) fn contend<T: Threads + Wait + Sync>(
-    rt: &T,
-    alloc: Global,
-    spreading: &Spreading,
-) -> Result<String, Failure> {
-    let numbers = vec![in alloc; Number { n: 0 }; spreading.locks]?;
-    let opened = open(alloc, spreading.threads, numbers, 0, &[])?;
-    run::<Brand, T>(rt, alloc, spreading, opened)
-}
-
-/// Starts a lot that counts, lets the workers run, ends it, and prints what was counted.
-fn run<N: LotName<Number> + Send + Sync, T: Threads + Wait + Sync>(
-    rt: &T,
-    alloc: Global,
-    spreading: &Spreading,
-    opened: Opened<Number>,
-) -> Result<String, Failure>
-    requires named { IsNamed N.LotName opened }
-    requires sizes { (opened.threads ≡ spreading.now.threads) × (length opened.values ≡ spreading.now.locks) }
-{
-    let started = start_counting_with_passes::<Number, N, T>(rt, alloc, spreading.threads, opened);
-    let Ok((mut lot, passes)) = started else {
-        return Err(Failure::NoMemory);
-    };
-    let (passes, gone) = spread(rt, &lot, spreading, Draw::Hot, passes);
-    let mut passes = leave_all(rt, &lot, passes);
-    take_all(rt, &mut lot, &mut passes);
-    let (numbers, _, counts) = lot.close_counted(rt, passes);
-    let mut text = String::new(alloc);
-    print_total(&mut text, "locks", numbers.as_slice(), gone?)?;
-    print_hottest(alloc, &mut text, counts.as_slice())?;
-    Ok(text)
-}
-
 /// A line for each of the hottest locks, from the hottest on.
-fn print_hottest(alloc: Global, text: &mut String, counts: &[Contention]) -> Result<(), Failure> {
+pub(crate) fn print_hottest(
+    alloc: Global,
+    text: &mut String,
+    counts: &[Contention],
+) -> Result<(), Failure> {
     let mut left = parked_of(alloc, counts)?;
     for _ in 0..MOST_TOLD {
         let Some(lock) = take_hottest(left.as_mut_slice()) else {

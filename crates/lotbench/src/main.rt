@@ -23,32 +23,14 @@
 //! words and tells what came of them.
 #![tactic(auto)]
 
-use lot_command::{report, texts_of, words};
+use lot_command::with_words;
 use lot_load::measure::run_command;
 use std::process::ExitCode;
 
 fn main(rt: HostRuntime) -> ExitCode {
     let alloc = rt.alloc();
-    let words = match words(&rt, alloc) {
-        Ok(words) => words,
-        Err(failure) => {
-            let status = report(Err(failure), &mut rt.stdout(), &mut rt.stderr());
-            return ExitCode::from(status);
-        }
+    let measure = |words: &[&str]| -> u8 {
+        run_command(&rt, alloc, words, &mut rt.stdout(), &mut rt.stderr())
     };
-    let texts = match texts_of(alloc, words.as_slice()) {
-        Ok(texts) => texts,
-        Err(failure) => {
-            let status = report(Err(failure), &mut rt.stdout(), &mut rt.stderr());
-            return ExitCode::from(status);
-        }
-    };
-    let status = run_command(
-        &rt,
-        alloc,
-        texts.as_slice(),
-        &mut rt.stdout(),
-        &mut rt.stderr(),
-    );
-    ExitCode::from(status)
+    ExitCode::from(with_words(&rt, alloc, &mut rt.stderr(), measure))
 }

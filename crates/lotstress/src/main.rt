@@ -15,38 +15,20 @@
 //! It stands on `lot_load`, which runs them, and on `lot_command`, which reads the words and tells what came of them.
 #![tactic(auto)]
 
-use lot_command::{report, texts_of, words};
+use lot_command::with_words;
 use lot_load::run_command;
 use std::fs::File;
 use std::process::ExitCode;
 
 fn main(rt: HostRuntime) -> ExitCode {
     let alloc = rt.alloc();
-    let words = match words(&rt, alloc) {
-        Ok(words) => words,
-        Err(failure) => {
-            let status = report(Err(failure), &mut rt.stdout(), &mut rt.stderr());
-            return ExitCode::from(status);
-        }
+    let run = |words: &[&str]| -> u8 {
+        let file = match words {
+            ["replay" | "witness", path] => File::open(&rt, *path).ok(),
+            _ => None,
+        };
+        let (mut out, mut faults) = (rt.stdout(), rt.stderr());
+        run_command(&rt, alloc, words, file, &mut out, &mut faults)
     };
-    let texts = match texts_of(alloc, words.as_slice()) {
-        Ok(texts) => texts,
-        Err(failure) => {
-            let status = report(Err(failure), &mut rt.stdout(), &mut rt.stderr());
-            return ExitCode::from(status);
-        }
-    };
-    let file = match texts.as_slice() {
-        ["replay" | "witness", path] => File::open(&rt, *path).ok(),
-        _ => None,
-    };
-    let status = run_command(
-        &rt,
-        alloc,
-        texts.as_slice(),
-        file,
-        &mut rt.stdout(),
-        &mut rt.stderr(),
-    );
-    ExitCode::from(status)
+    ExitCode::from(with_words(&rt, alloc, &mut rt.stderr(), run))
 }
