@@ -33,10 +33,6 @@ pub struct Connection {
 impl Keeps for Connection {
     type Part = ();
 
-    ghost keeps = { λ key connection. Unit {0} };
-
-    ghost grows = { λ old new. Unit {0} };
-
     ghost part = { λ thread connection. tt };
 
     ghost grows_itself = { λ connection. tt };

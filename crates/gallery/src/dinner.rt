@@ -44,8 +44,6 @@ impl Keeps for Fork {
 
     ghost keeps = { λ key fork. HasPlaces fork };
 
-    ghost grows = { λ old new. Unit {0} };
-
     ghost part = { meals_of };
 
     ghost rests = { λ rested. AteWithBoth rested.thread rested.seen };

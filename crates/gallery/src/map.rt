@@ -39,8 +39,6 @@ impl Keeps for Shard {
 
     ghost keeps = { λ key shard. HasRows shard };
 
-    ghost grows = { λ old new. Unit {0} };
-
     ghost part = { λ thread shard. row_of thread shard };
 
     ghost rests = { λ rested. added_by rested.thread rested.seen ≡ 0 };

@@ -45,10 +45,6 @@ pub struct Shard {
 impl Keeps for Shard {
     type Part = ();
 
-    ghost keeps = { λ key shard. Unit {0} };
-
-    ghost grows = { λ old new. Unit {0} };
-
     ghost part = { λ thread shard. tt };
 
     ghost grows_itself = { λ shard. tt };

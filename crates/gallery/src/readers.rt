@@ -43,8 +43,6 @@ impl Keeps for Room {
 
     ghost keeps = { λ key room. IsFair room };
 
-    ghost grows = { λ old new. Unit {0} };
-
     ghost part = { share_of };
 
     ghost grows_itself = { λ room. tt };

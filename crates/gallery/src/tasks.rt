@@ -43,8 +43,6 @@ impl Keeps for Pool {
 
     ghost keeps = { λ key pool. HasEachOnce pool };
 
-    ghost grows = { λ old new. Unit {0} };
-
     ghost part = { in_hand_of };
 
     ghost grows_itself = { λ pool. tt };
