@@ -1,5 +1,6 @@
 //! The words of the command line.
-ghost use Rattle.std.specs.Prelude.{◌≡◌, map, string_bytes, IfOk};
+ghost use Rattle.std.specs.Prelude.{◌≡◌, ◌≤◌, ◌⊎◌, map, string_bytes, IfOk, IfErr};
+ghost use Rattle.lot_command.specs.declared.failure.Failure.TheVariants.{NoMemory};
 
 use crate::failure::Failure;
 use crate::outcome::fail;
@@ -43,28 +44,33 @@ pub fn words<E: Env>(rt: &E, alloc: Global) -> Result<Vec<String>, Failure> {
 
 /// The words as texts, each as it is, to be matched; `NoMemory` where room for them is refused.
 pub fn texts_of(alloc: Global, words: &[String]) -> Result<Vec<&str>, Failure>
-    ensures { IfOk result (λ texts. map (λ t. t.now) texts.items ≡ map string_bytes words.now) }
+    ensures each { IfOk result (λ texts. map (λ t. t.now) texts.items ≡ map string_bytes words.now) }
+    ensures refused { IfErr result (λ failure. failure ≡ NoMemory) }
 {
-    let mut texts = Vec::with_capacity(alloc, words.len())?;
+    let Ok(mut texts) = Vec::with_capacity(alloc, words.len()) else {
+        return Err(Failure::NoMemory);
+    };
     for i in 0..words.len() {
         texts.push_reserved(words[i].as_str());
     }
     Ok(texts)
 }
 
-/// Runs what the words spell that follow the program's name, and answers the exit status: that of the run, or, where the
-/// words can't be had, that of the failure whose text is written to `faults`.
-/// `with_words(&rt, alloc, &mut rt.stderr(), |words| run_command(alloc, words, &mut rt.stdout()))`.
-pub fn with_words<E: Env, W: Write, F: FnOnce(&[&str]) -> u8>(
-    rt: &E,
+/// Runs what the words spell, and answers the exit status: that of the run, or, where the words or room for their texts
+/// can't be had, that of the failure, whose text is written to `faults`.
+/// `with_words(alloc, words(&rt, alloc), &mut rt.stderr(), |words| run_command(alloc, words, &mut rt.stdout()))`.
+pub fn with_words<W: Write, F: FnOnce(&[&str]) -> u8>(
     alloc: Global,
+    words: Result<Vec<String>, Failure>,
     faults: &mut W,
     run: F,
 ) -> u8
     requires callable { F.IsAlwaysCallable run }
-    ensures ran { result ≡ 0 → (texts : _) × F.post run texts 0 }
+    ensures ran { IfOk words (λ w. ((texts : _) × (map (λ t. t.now) texts.now ≡ map string_bytes w.items)
+        × F.post run texts result) ⊎ (result ≡ 3)) }
+    ensures failed { IfErr words (λ _. 1 ≤ result) }
 {
-    let words = match words(rt, alloc) {
+    let words = match words {
         Ok(words) => words,
         Err(failure) => return fail(failure, faults),
     };

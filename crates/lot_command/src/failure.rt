@@ -1,5 +1,6 @@
 //! What a program answers where it has no result.
-ghost use Rattle.std.specs.Prelude.{◌≤◌};
+ghost use Rattle.std.specs.Prelude.{◌≡◌, ◌≤◌};
+ghost use Rattle.lot_command.specs.declared.failure.Failure.TheVariants.{NoMemory};
 
 use std::alloc::AllocError;
 
@@ -33,7 +34,8 @@ impl Failure {
     /// 1 for what the caller can mend, 2 for an event that the model refuses or that saw otherwise than is said of it,
     /// 3 for what the machine lacks.
     pub fn status(self) -> u8
-        ensures { (1 ≤ result) × (result ≤ 3) }
+        ensures bounds { (1 ≤ result) × (result ≤ 3) }
+        ensures memory { self ≡ NoMemory → result ≡ 3 }
     {
         match self {
             Failure::BadCommandLine

@@ -1,5 +1,6 @@
 //! What is written of an outcome, and where.
 ghost use Rattle.std.specs.Prelude.{◌≡◌, ◌≤◌, IfOk, OnErr, string_bytes};
+ghost use Rattle.lot_command.specs.declared.failure.Failure.TheVariants.{NoMemory};
 
 use crate::failure::Failure;
 use arrayvec::ArrayString;
@@ -40,7 +41,8 @@ pub fn report<W: Write, E: Write>(
 
 /// Writes the failure to `faults`, and answers its exit status.
 pub(crate) fn fail<E: Write>(failure: Failure, faults: &mut E) -> u8
-    ensures { 1 ≤ result }
+    ensures bounds { 1 ≤ result }
+    ensures memory { failure ≡ NoMemory → result ≡ 3 }
 {
     tell(failure, faults);
     failure.status()

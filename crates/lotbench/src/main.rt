@@ -23,7 +23,7 @@
 //! words and tells what came of them.
 #![tactic(auto)]
 
-use lot_command::with_words;
+use lot_command::{with_words, words};
 use lot_load::measure::run_command;
 use std::process::ExitCode;
 
@@ -32,5 +32,5 @@ fn main(rt: HostRuntime) -> ExitCode {
     let measure = |words: &[&str]| -> u8 {
         run_command(&rt, alloc, words, &mut rt.stdout(), &mut rt.stderr())
     };
-    ExitCode::from(with_words(&rt, alloc, &mut rt.stderr(), measure))
+    ExitCode::from(with_words(alloc, words(&rt, alloc), &mut rt.stderr(), measure))
 }

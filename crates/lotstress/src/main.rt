@@ -15,7 +15,7 @@
 //! It stands on `lot_load`, which runs them, and on `lot_command`, which reads the words and tells what came of them.
 #![tactic(auto)]
 
-use lot_command::with_words;
+use lot_command::{with_words, words};
 use lot_load::run_command;
 use std::fs::File;
 use std::process::ExitCode;
@@ -30,5 +30,5 @@ fn main(rt: HostRuntime) -> ExitCode {
         let (mut out, mut faults) = (rt.stdout(), rt.stderr());
         run_command(&rt, alloc, words, file, &mut out, &mut faults)
     };
-    ExitCode::from(with_words(&rt, alloc, &mut rt.stderr(), run))
+    ExitCode::from(with_words(alloc, words(&rt, alloc), &mut rt.stderr(), run))
 }

@@ -5,7 +5,7 @@
 //! them.
 #![tactic(auto)]
 
-use lot_command::with_words;
+use lot_command::{with_words, words};
 use lot_draw::run_command;
 use std::fs::File;
 use std::process::ExitCode;
@@ -19,5 +19,5 @@ fn main(rt: HostRuntime) -> ExitCode {
         };
         run_command(alloc, words, file, &mut rt.stdout(), &mut rt.stderr())
     };
-    ExitCode::from(with_words(&rt, alloc, &mut rt.stderr(), draw))
+    ExitCode::from(with_words(alloc, words(&rt, alloc), &mut rt.stderr(), draw))
 }
