@@ -1,6 +1,6 @@
 -- One wait more on a condition, and a lock that was got and then waited with.
 use Rattle.std.proofs.Common.{◌≡◌, ℕ, zero, suc, ◌+◌, ◌<◌, Bool, true, false, List, [], ◌∷◌, ◌++◌, length, get_or, set, slice_index, refl}
-use Rattle.std.proofs.Common.{sym, ap, subst, ◌∙◌, append_assoc, arith}
+use Rattle.std.proofs.Common.{sym, ap, subst, ◌∙◌, arith}
 use Rattle.std.proofs.lemmas.List.{get_or-set_same, set-set, append-nil}
 use Rattle.atomic_table.proofs.Lists.{set_here}
 use Rattle.lot_words.specs.CallersRule.{CallersRule}
@@ -9,6 +9,7 @@ use Rattle.lot_sync.specs.Lot.{LotView, PassView, HeldView, ◌≈◌, Owns, Own
 use Rattle.lot_sync.specs.Traces.{Adds, WaitedTrace}
 use Rattle.lot_sync.specs.Values.{Gets, MayGiveBack, WaitsAndGets}
 use Rattle.lot_sync.specs.Holding.{Holding}
+use Rattle.lot_sync.proofs.Adding.{adds_then}
 use Rattle.lot_sync.proofs.Holdings.{near_of, may_go_back, got_holds}
 use Rattle.lot_calls.specs.Traces.{WaitsTrace, GetAfterTrace}
 use Rattle.lot_calls.specs.Waits.{AfterWaits, WaitsOn, GetsAfter, woken_from}
@@ -68,36 +69,18 @@ module _ {V : Type 0} where
       → Adds before.made (WaitsTrace before.thread cond key now n) pass.made
       → Adds pass.made (WaitedTrace pass.thread cond k now) after.made
       → Adds before.made (WaitsTrace before.thread cond key now (suc n)) after.made
-  made_once_more before pass after key k cond now n same thread (front, pass_is, waits) (last, after_is, waited) = (
-    front ++ last,
-    after_is ∙ (ap (λ ds. ds ++ last) pass_is ∙ append_assoc before.made front last),
-    (
-      front,
-      last,
-      waits,
-      subst (λ l. WaitedTrace before.thread cond l now last) same
-          (subst (λ t. WaitedTrace t cond k now last) thread waited),
-      refl,
-    ),
-  )
+  made_once_more before pass after key k cond now n same thread waits waited =
+      adds_then before.made waits (subst (λ l. Adds pass.made (WaitedTrace before.thread cond l now) after.made) same
+      (subst (λ t. Adds pass.made (WaitedTrace t cond k now) after.made) thread waited))
 
   -- those of a lock that was got and then waited with
   pub made_until : (before got after : PassView V) (key k cond now n : ℕ) → k ≡ key → got.thread ≡ before.thread
       → Adds before.made (GetTrace before.thread key) got.made
       → Adds got.made (WaitsTrace got.thread cond k now n) after.made
       → Adds before.made (GetAfterTrace before.thread cond key now n) after.made
-  made_until before got after key k cond now n same thread (get, got_is, trace) (waits, after_is, waited) = (
-    get ++ waits,
-    after_is ∙ (ap (λ ds. ds ++ waits) got_is ∙ append_assoc before.made get waits),
-    (
-      get,
-      waits,
-      trace,
-      subst (λ l. WaitsTrace before.thread cond l now n waits) same
-          (subst (λ t. WaitsTrace t cond k now n waits) thread waited),
-      refl,
-    ),
-  )
+  made_until before got after key k cond now n same thread get waits =
+      adds_then before.made get (subst (λ l. Adds got.made (WaitsTrace before.thread cond l now n) after.made) same
+      (subst (λ t. Adds got.made (WaitsTrace t cond k now n) after.made) thread waits))
 
   -- how many waits more have ended
   pub woken_after : (before after : PassView V) (key cond n : ℕ) (found : V) → AfterWaits before key cond found n after

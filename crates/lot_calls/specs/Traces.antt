@@ -5,7 +5,7 @@ use Rattle.lot_rights.specs.declared.views.Access.{Access}
 use Rattle.lot_scheme.specs.Traces.{GetTrace}
 use Rattle.lot_locks.specs.declared.released.Released.{Released}
 use Rattle.lot_locks.specs.Released.{IsFitting, FreeTrace}
-use Rattle.lot_sync.specs.Traces.{WaitedTrace}
+use Rattle.lot_sync.specs.Traces.{Then, WaitedTrace}
 
 -- a visit of a lock: it was got, and let go
 pub record VisitTrace (t l now : ℕ) (acts : List Access) : Type 0 where
@@ -36,9 +36,8 @@ BothTrace t l m now acts = ((l < m) × NestedTrace t l m now acts) ⊎ ((m < l) 
 -- so many waits on a condition with a lock, one after the other
 abbrev pub WaitsTrace : ℕ → ℕ → ℕ → ℕ → ℕ → List Access → Type 0
 WaitsTrace t c l now zero acts = acts ≡ []
-WaitsTrace t c l now (suc n) acts =
-    (front last : List Access) × WaitsTrace t c l now n front × WaitedTrace t c l now last × (acts ≡ front ++ last)
+WaitsTrace t c l now (suc n) acts = Then (WaitsTrace t c l now n) (WaitedTrace t c l now) acts
 
 -- a lock was got, and then so many waits were made with it
 abbrev pub GetAfterTrace : ℕ → ℕ → ℕ → ℕ → ℕ → List Access → Type 0
-GetAfterTrace t c l now n acts = (get waits : List Access) × GetTrace t l get × WaitsTrace t c l now n waits × (acts ≡ get ++ waits)
+GetAfterTrace t c l now n = Then (GetTrace t l) (WaitsTrace t c l now n)

@@ -1,6 +1,6 @@
 -- A lock that was got, worked on and left, after which conditions were told.
-use Rattle.std.proofs.Common.{◌≡◌, ℕ, zero, suc, ◌+◌, ◌-◌, ◌<◌, ◌≤◌, Bool, true, false, List, [], ◌++◌, length, set, refl, sym}
-use Rattle.std.proofs.Common.{ap, subst, ◌∙◌, append_assoc, arith}
+use Rattle.std.proofs.Common.{◌≡◌, ℕ, zero, suc, ◌+◌, ◌-◌, ◌<◌, ◌≤◌, Bool, true, false, List, [], length, set, refl, sym}
+use Rattle.std.proofs.Common.{ap, subst, ◌∙◌, arith}
 use Rattle.std.proofs.lemmas.List.{append-nil, map-set, length-map, length-set, set-set}
 use Rattle.atomic_table.proofs.Lists.{set_here}
 use mathlib.Core.Option.{some-injective}
@@ -15,7 +15,8 @@ use Rattle.lot_sync.specs.Values.{Gets, MayGiveBack}
 use Rattle.lot_words.specs.Values.{MayBecome}
 use Rattle.lot_calls.specs.Visits.{own_parts}
 use Rattle.lot_calls.specs.Waits.{AfterWaits, WaitsWhile, woken_from}
-use Rattle.lot_calls.specs.Traces.{WaitsTrace, GetAfterTrace}
+use Rattle.lot_calls.specs.Traces.{GetAfterTrace}
+use Rattle.lot_sync.proofs.Adding.{adds_then}
 use Rattle.lot_calls.proofs.Visiting.{set_back, finds}
 use Rattle.lot_regions.specs.Traces.{TellTrace, LeaveTrace, ChangeTrace, WhenTrace}
 use Rattle.lot_regions.specs.Regions.{Region, HasGot}
@@ -40,19 +41,12 @@ module _ (told : ℕ → Bool) (t l now first behind : ℕ) (before mid after : 
   pub told_last : (cond u : ℕ) → cond ≡ behind - 1 → first < behind → u ≡ t
       → Adds before (LeaveTrace told t l now first (cond - first)) mid → Adds mid (TellTrace (told cond) u cond) after
       → Adds before (LeaveTrace told t l now first (behind - first)) after
-  told_last cond u last_is some same (front, mid_is, left) (last, after_is, tell) =
+  told_last cond u last_is some same left tell =
       let long : behind - first ≡ suc (cond - first) = omega (arith, last_is, some) in
-      let at : first + (cond - first) ≡ cond = omega (arith, last_is, some) in (
-        front ++ last,
-        after_is ∙ (ap (λ ds. ds ++ last) mid_is ∙ append_assoc before front last),
-        subst (λ n. LeaveTrace told t l now first n (front ++ last)) (sym long) (
-          front,
-          last,
-          left,
-          subst (λ c. TellTrace (told c) t c last) (sym at) (subst (λ w. TellTrace (told cond) w cond last) same tell),
-          refl,
-        ),
-      )
+      let at : first + (cond - first) ≡ cond = omega (arith, last_is, some) in
+      subst (λ n. Adds before (LeaveTrace told t l now first n) after) (sym long)
+      (adds_then before left (subst (λ c. Adds mid (TellTrace (told c) t c) after) (sym at)
+      (subst (λ w. Adds mid (TellTrace (told cond) w cond) after) same tell)))
 
 module _ (told : ℕ → Bool) (t cond : ℕ) where
   -- a condition for which the value is ready was notified
@@ -66,43 +60,17 @@ module _ (told : ℕ → Bool) (t cond : ℕ) where
 
 module _ (told : ℕ → Bool) (t l now c n : ℕ) (before mid after : List Access) (u k : ℕ) (same : u ≡ t) (same_key : k ≡ l) where
   left_by : Adds mid (LeaveTrace told u k now c n) after → Adds mid (LeaveTrace told t l now c n) after
-  left_by (did, is, trace) = (
-    did,
-    is,
-    subst (λ j. LeaveTrace told t j now c n did) same_key
-        (subst (λ w. LeaveTrace told w k now c n did) same trace),
-  )
+  left_by leaves =
+      subst (λ j. Adds mid (LeaveTrace told t j now c n) after) same_key
+      (subst (λ w. Adds mid (LeaveTrace told w k now c n) after) same leaves)
 
   pub change_made : Adds before (GetTrace t l) mid → Adds mid (LeaveTrace told u k now c n) after
       → Adds before (ChangeTrace told t l now c n) after
-  change_made (get, mid_is, got) leaves = let (leave, after_is, left) = left_by leaves in (
-    get ++ leave,
-    after_is ∙ (ap (λ ds. ds ++ leave) mid_is ∙ append_assoc before get leave),
-    (get, leave, got, left, refl),
-  )
+  change_made got leaves = adds_then before got (left_by leaves)
 
   pub when_made : (d count : ℕ) → Adds before (GetAfterTrace t d l now count) mid → Adds mid (LeaveTrace told u k now c n) after
       → Adds before (WhenTrace told t d count l now c n) after
-  when_made d count (get, mid_is, got) leaves = let (leave, after_is, left) = left_by leaves in (
-    get ++ leave,
-    after_is ∙ (ap (λ ds. ds ++ leave) mid_is ∙ append_assoc before get leave),
-    (get, leave, got, left, refl),
-  )
-
--- the accesses of a lock that was got, and then waited with
-pub got_after_made : (t l d now count : ℕ) (before got mid : List Access) (u k : ℕ) → u ≡ t → k ≡ l → Adds before (GetTrace t l) got
-    → Adds got (WaitsTrace u d k now count) mid → Adds before (GetAfterTrace t d l now count) mid
-got_after_made t l d now count before got mid u k same same_key (get, got_is, trace) (waits, mid_is, waited) = (
-  get ++ waits,
-  mid_is ∙ (ap (λ ds. ds ++ waits) got_is ∙ append_assoc before get waits),
-  (
-    get,
-    waits,
-    trace,
-    subst (λ j. WaitsTrace t d j now count waits) same_key (subst (λ w. WaitsTrace w d k now count waits) same waited),
-    refl,
-  ),
-)
+  when_made d count got leaves = adds_then before got (left_by leaves)
 
 -- ---- how the pass stands then
 module _ {V : Type 0} where

@@ -1,11 +1,12 @@
 -- How a pass is seen after a call, but for the accesses that were made with it; and which of these the call added.
-use Rattle.std.proofs.Common.{◌≡◌, ℕ, Bool, true, false, List, ◌++◌, Option, Some, None, inl, inr, sym, ap, subst, ◌∙◌}
+use Rattle.std.proofs.Common.{◌≡◌, ℕ, Bool, true, false, List, ◌++◌, Option, Some, None, inl, inr, refl, sym, ap, subst, ◌∙◌}
+use Rattle.std.proofs.Common.{append_assoc}
 use Rattle.lot_rights.specs.declared.views.Access.{Access}
 use Rattle.lot_scheme.specs.Standing.{LotStanding}
 use Rattle.lot_locks.specs.declared.released.Released.TheVariants.{Quiet}
 use Rattle.lot_locks.specs.Released.{decision, FreeTrace}
 use Rattle.lot_sync.specs.Lot.{PassView, ◌≈◌}
-use Rattle.lot_sync.specs.Traces.{Adds, UnparkedTrace}
+use Rattle.lot_sync.specs.Traces.{Adds, Then, UnparkedTrace}
 use Rattle.lot_sync.specs.Passes.{pass_view_of}
 
 module _ {V : Type 0} where
@@ -22,6 +23,15 @@ module _ {V : Type 0} where
     ap (λ (v : PassView V). v.made) is ∙ (more ∙ ap (λ (v : PassView V). v.made ++ did) (sym was)),
     subst (λ (v : PassView V). trace v.thread did) (sym was) told,
   )
+
+-- what two calls add, one after the other
+pub adds_then : (before : List Access) {mid after : List Access} {first second : List Access → Type 0} → Adds before first mid
+    → Adds mid second after → Adds before (Then first second) after
+adds_then before (front, mid_is, one) (back, after_is, other) = (
+  front ++ back,
+  after_is ∙ (ap (λ ds. ds ++ back) mid_is ∙ append_assoc before front back),
+  (front, back, one, other, refl),
+)
 
 -- no decision under a bucket's lock is that nobody was parked
 undecided : (first : Option ℕ) (fair : Bool) → Quiet ≡ decision first fair → ⊥

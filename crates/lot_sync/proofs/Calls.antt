@@ -18,6 +18,8 @@ use Rattle.lot_scheme.specs.Standing.{called_more as stand_called_more, one_perm
 use Rattle.lot_scheme.specs.Standing.{one_permit_less as stand_one_permit_less}
 use Rattle.lot_scheme.specs.Traces.{trace_of_all, trace_of_nobody, TookTrace, BusyTrace}
 use Rattle.lot_locks.specs.declared.released.Released.{Released}
+use Rattle.lot_locks.specs.Standing.{GoesBy}
+use Rattle.lot_core.specs.Parts.{IsAmongConds}
 use Rattle.lot_waits.specs.Counts.{AreKept, counts_in, called_more}
 use Rattle.lot_waits.specs.Waiting.{HasWaited, waited}
 use Rattle.lot_waits.specs.Notifying.{FindsNobody, Notifies, NotifiesAll, one_if}
@@ -25,7 +27,7 @@ use Rattle.lot_waits.proofs.Taken.{none_called}
 use Rattle.lot_permits.specs.declared.permit.Tried.{Tried}
 use Rattle.lot_permits.specs.declared.permit.Tried.TheVariants.{Got, Empty, Busy}
 use Rattle.lot_permits.specs.Tries.{TriesToGet as Tries}
-use Rattle.lot_sync.specs.Lot.{PassView, HeldView, ◌≈◌, LotNames, Owns, owning, letting_go as view_letting_go}
+use Rattle.lot_sync.specs.Lot.{PassView, HeldView, LotView, ◌≈◌, LotNames, Owns, IsCond, owning, letting_go as view_letting_go}
 use Rattle.lot_sync.specs.Lot.{one_wait_more as view_one_wait_more, called_more as view_called_more}
 use Rattle.lot_sync.specs.Lot.{one_permit_more as view_one_permit_more, one_permit_less as view_one_permit_less}
 use Rattle.lot_sync.specs.Permits.{TriesToGet}
@@ -33,7 +35,7 @@ use Rattle.lot_sync.specs.Traces.{Adds, NobodyTrace, NotifyTrace, NotifyAllTrace
 use Rattle.lot_sync.specs.Passes.{is_held, pass_view_of, IsAtRest, IsNewOwner}
 use Rattle.lot_sync.specs.Values.{Gets}
 use Rattle.lot_sync.proofs.Adding.{alike_at, adds_at}
-use Rattle.lot_sync.proofs.Rests.{sees_as, sees_stays, one_lies, left_at_rest, owns_so, owns_after, rests_on}
+use Rattle.lot_sync.proofs.Rests.{sees_as, sees_stays, one_lies, left_at_rest, leaves_all, owns_so, owns_after, rests_on}
 
 -- ---- notifications
 module _ {V : Type 0} where
@@ -116,6 +118,29 @@ module _ {V : Type 0} where
     subst (λ (v : PassView V). out ≈ v) (sym was) (alike_at out (pass_view_of p) q is (sees_stays p q did now)),
     adds_at (λ t. BusyTrace t k) before out p q did was is (ap (λ (r : LotStanding V). r.did) now) trace,
   )
+
+  -- what the callers of an unlock see, where the lock's key is that of the value that they gave back
+  pub sees_left_at : {by : List Access → Type 0} {p q : LotStanding V} {out before : PassView V} {l k : ℕ} {value : V} → l ≡ k
+      → pass_view_of p ≡ before → out ≡ pass_view_of q → IsIn p.own.locks l value → GoesBy by p l q
+      → out ≈ view_letting_go before k value
+  sees_left_at {by} {p} {q} {out} {before} {l} {k} {value} key same is lies went =
+      subst (λ n. out ≈ view_letting_go before n value) key
+      (subst (λ (v : PassView V). out ≈ view_letting_go v l value) same
+      (alike_at out (view_letting_go (pass_view_of p) l value) q is (leaves_all by p q l value lies went)))
+
+  -- and which accesses the unlock added
+  pub adds_left : (trace : ℕ → ℕ → List Access → Type 0) {by : List Access → Type 0} {p q : LotStanding V} {out before : PassView V}
+      {l k : ℕ} → l ≡ k → pass_view_of p ≡ before → out ≡ pass_view_of q → (went : GoesBy by p l q)
+      → (by went.did → trace p.thread l went.did)
+      → Adds before.made (trace before.thread k) out.made
+  adds_left trace {by} {p} {q} {out} {before} {l} {k} key same is went told =
+      subst (λ n. Adds before.made (trace before.thread n) out.made) key
+      (adds_at (λ t. trace t l) before out p q went.did (sym same) is (ap (λ (r : LotStanding V). r.did) went.is) (told went.freed))
+
+-- a condition of the lot is one by the lot's name
+pub among_conds : (lot : LotView) {own locks conds c : ℕ} → own ≡ locks → lot.locks ≡ locks → lot.conds ≡ conds → IsCond lot c
+    → IsAmongConds own conds c
+among_conds lot own of_locks of_conds (above, below) = (omega (arith, own, of_locks, above), omega (arith, own, of_locks, below, of_conds))
 
 -- the tallies, to which what was taken is added
 pub kept_called : {V : Type 0} {locks own conds : ℕ} {trace : ℕ → List Access → Type 0} {p q : LotStanding V} {c n : ℕ}

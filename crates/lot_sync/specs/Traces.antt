@@ -17,6 +17,10 @@ use Rattle.lot_permits.specs.declared.permit.Tried.TheVariants.{Got, Empty, Busy
 abbrev pub Adds : List Access → (List Access → Type 0) → List Access → Type 0
 Adds before trace after = (did : List Access) × (after ≡ before ++ did) × trace did
 
+-- such a trace, and then another
+abbrev pub Then : (List Access → Type 0) → (List Access → Type 0) → List Access → Type 0
+Then first second acts = (front back : List Access) × first front × second back × (acts ≡ front ++ back)
+
 -- ---- locks
 -- a lock was let go where nobody was parked, or was not
 abbrev pub UnparkedTrace : ℕ → ℕ → Bool → List Access → Type 0

@@ -6,8 +6,10 @@ use Rattle.lot_regions.specs.Traces.{WhenTrace}
 use Rattle.lot_regions.specs.Regions.{HasGot}
 use Rattle.lot_calls.specs.Waits.{WaitsWhile}
 use Rattle.lot_calls.proofs.Visiting.{finds_got}
-use Rattle.lot_calls.proofs.Waiting.{woken_after, woken_alike}
-use Rattle.lot_regions.proofs.Leaving.{got_after_waits, region, back, got_after_made, when_made, waits_map}
+use Rattle.lot_calls.proofs.Waiting.{made_until, woken_after, woken_alike}
+use Rattle.lot_regions.proofs.Leaving.{got_after_waits, region, back, when_made, waits_map}
+use Rattle.lot_regions.proofs.region.when.Given.{Over}
+use Rattle.lot_regions.proofs.region.when.Goals.{After-value_mut}
 use Rattle.lot_regions.proofs.region.when.Goals as goal
 
 -- whoever owned nothing may wait with the lock that it got
@@ -16,6 +18,22 @@ wait_until-pass-requires-clause-above g c κs within =
     let p = c.args.pass in
     got_waits g.V.Keeps p c.lock-pass.result.0 c.args.key c.lock-pass.result.1 c.lock-pass.ensures.gets c.args.cond
     (none_below g.V.Keeps.above p c.args.key c.requires.free) (none_below g.V.Keeps.above p c.args.cond c.requires.free)
+
+-- the value was found ready for the condition
+ready : (g : Over) (c : After-value_mut g) → g.V.Ready.ready c.args.cond c.value_mut.result.now ≡ true
+ready g c =
+    let (v, same, says) = c.wait_until-pass.ensures.ready in
+    subst (λ w. g.V.Ready.ready c.args.cond w ≡ true) (same ∙ sym c.value_mut.ensures.value) (search rules)
+
+-- by the pass that got the lock and waited
+got : (g : Over) (c : After-value_mut g) → HasGot g.V.Keeps c.args.pass c.args.key c.value_mut.result.now c.wait_until-pass.result.0
+got g c =
+    let mid = c.wait_until-pass.result.0 in
+    let gets = c.lock-pass.ensures.gets in
+    let waits = c.wait_until-pass.ensures.waits in
+    subst (λ w. HasGot g.V.Keeps c.args.pass c.args.key w mid) (sym c.value_mut.ensures.value)
+    (got_after_waits g.V.Keeps c.args.pass c.args.key c.lock-pass.result.1 c.wait_until-pass.result.1 c.lock-pass.result.0 mid c.args.cond
+    waits.count gets waits.after_is waits.same waits.kept waits.grown waits.mine c.args.lot.now c.requires.key c.lock-pass.ensures.shape)
 
 pub returns-clause-visits : goal.returns-clause-visits
 returns-clause-visits g c =
@@ -27,28 +45,24 @@ returns-clause-visits g c =
     let left = record found { now = c.work-outcome.new.arg2 } in
     let gets = c.lock-pass.ensures.gets in
     let waits = c.wait_until-pass.ensures.waits in
-    let (v, same, says) = c.wait_until-pass.ensures.ready in
-    let ready : g.V.Ready.ready c.args.cond found.now ≡ true =
-    subst (λ w. g.V.Ready.ready c.args.cond w ≡ true) (same ∙ sym c.value_mut.ensures.value) (search rules) in
     let thread = ap (λ (z : PassView _). z.thread) gets.after_is in
-    let got : HasGot g.V.Keeps p c.args.key found.now mid =
-    subst (λ w. HasGot g.V.Keeps p c.args.key w mid) (sym c.value_mut.ensures.value)
-    (got_after_waits g.V.Keeps p c.args.key held c.wait_until-pass.result.1 q mid c.args.cond waits.count gets waits.after_is waits.same
-    waits.kept waits.grown waits.mine c.args.lot.now c.requires.key c.lock-pass.ensures.shape) in
-    let may = c.requires.keeps found c.work-outcome.result left got.finds ready c.work-outcome.ensures in
+    let at = (goal.at.returns-clause-visits g c).After-value_mut in
+    let has_got = got g at in
+    let is_ready = ready g at in
+    let may = c.requires.keeps found c.work-outcome.result left has_got.finds is_ready c.work-outcome.ensures in
     let told : ℕ → Bool = λ d. g.V.Ready.ready d left.now in
-    let after_waits = got_after_made p.thread c.args.key c.args.cond c.args.moment.now waits.count p.made q.made mid.made q.thread held.key
-    thread gets.key_is c.lock-pass.ensures.made waits.made in
+    let after_waits = made_until p q mid c.args.key held.key c.args.cond c.args.moment.now waits.count gets.key_is thread
+    c.lock-pass.ensures.made waits.made in
     let made = when_made told p.thread c.args.key c.args.moment.now c.first_of-first.result
     (c.behind_of-behind.result - c.first_of-first.result) p.made mid.made c.leave.result.made mid.thread c.wait_until-pass.result.1.key
     (waits.thread ∙ thread) (waits.key_is ∙ gets.key_is) c.args.cond waits.count after_waits c.leave.ensures.made in (
       found,
       left,
       c.work-outcome.ensures,
-      region g.V.Keeps p c.args.key found.now left.now mid got may c.wait_until-pass.result.1.key
+      region g.V.Keeps p c.args.key found.now left.now mid has_got may c.wait_until-pass.result.1.key
           (waits.key_is ∙ gets.key_is) c.leave.result
           (c.requires.free.no_lock c.args.key) c.leave.ensures.left c.leave.ensures.seen,
-      ready,
+      is_ready,
       (
         waits.count,
         subst (λ f. Adds p.made
@@ -78,33 +92,15 @@ returns-clause-visits g c =
 
 pub work-outcome-requires : goal.work-outcome-requires
 work-outcome-requires g c =
-    let found = c.value_mut.result in
-    let mid = c.wait_until-pass.result.0 in
-    let gets = c.lock-pass.ensures.gets in
-    let waits = c.wait_until-pass.ensures.waits in
-    let (v, same, says) = c.wait_until-pass.ensures.ready in
-    let ready : g.V.Ready.ready c.args.cond found.now ≡ true =
-    subst (λ w. g.V.Ready.ready c.args.cond w ≡ true) (same ∙ sym c.value_mut.ensures.value) (search rules) in
-    let got : HasGot g.V.Keeps c.args.pass c.args.key found.now mid =
-    subst (λ w. HasGot g.V.Keeps c.args.pass c.args.key w mid) (sym c.value_mut.ensures.value)
-    (got_after_waits g.V.Keeps c.args.pass c.args.key c.lock-pass.result.1 c.wait_until-pass.result.1 c.lock-pass.result.0 mid c.args.cond
-    waits.count gets waits.after_is waits.same waits.kept waits.grown waits.mine c.args.lot.now c.requires.key c.lock-pass.ensures.shape) in
-    c.requires.callable found got.finds ready
+    let at = (goal.at.work-outcome-requires g c).After-value_mut in
+    c.requires.callable c.value_mut.result (got g at).finds (ready g at)
 
 pub leave-requires-clause-back : goal.leave-requires-clause-back
 leave-requires-clause-back g c κs within =
-    let left = record c.value_mut.result { now = c.work-outcome.new.arg2 } in
     let found = c.value_mut.result in
-    let mid = c.wait_until-pass.result.0 in
-    let gets = c.lock-pass.ensures.gets in
-    let waits = c.wait_until-pass.ensures.waits in
-    let (v, same, says) = c.wait_until-pass.ensures.ready in
-    let ready : g.V.Ready.ready c.args.cond found.now ≡ true =
-    subst (λ w. g.V.Ready.ready c.args.cond w ≡ true) (same ∙ sym c.value_mut.ensures.value) (search rules) in
-    let got : HasGot g.V.Keeps c.args.pass c.args.key found.now mid =
-    subst (λ w. HasGot g.V.Keeps c.args.pass c.args.key w mid) (sym c.value_mut.ensures.value)
-    (got_after_waits g.V.Keeps c.args.pass c.args.key c.lock-pass.result.1 c.wait_until-pass.result.1 c.lock-pass.result.0 mid c.args.cond
-    waits.count gets waits.after_is waits.same waits.kept waits.grown waits.mine c.args.lot.now c.requires.key c.lock-pass.ensures.shape) in
-    back g.V.Keeps c.args.pass c.args.key found.now left.now mid got
-    (c.requires.keeps found c.work-outcome.result left got.finds ready c.work-outcome.ensures) c.wait_until-pass.result.1.key
-    (waits.key_is ∙ gets.key_is)
+    let left = record found { now = c.work-outcome.new.arg2 } in
+    let at = (goal.at.leave-requires-clause-back g c).After-value_mut in
+    let has_got = got g at in
+    back g.V.Keeps c.args.pass c.args.key found.now left.now c.wait_until-pass.result.0 has_got
+    (c.requires.keeps found c.work-outcome.result left has_got.finds (ready g at) c.work-outcome.ensures) c.wait_until-pass.result.1.key
+    (c.wait_until-pass.ensures.waits.key_is ∙ c.lock-pass.ensures.gets.key_is)

@@ -1,7 +1,6 @@
-use Rattle.std.proofs.Common.{arith}
 use Rattle.lot_waits.specs.Counts.{counts_in}
 use Rattle.lot_sync.specs.Traces.{NotifyAllTrace}
-use Rattle.lot_sync.proofs.Calls.{kept_called, took_all, rests_called, sees_more}
+use Rattle.lot_sync.proofs.Calls.{among_conds, kept_called, took_all, rests_called, sees_more}
 use Rattle.lot_sync.proofs.lot.Lot.notify_all.Goals as goal
 
 pub at_rest-requires-clause-rest : goal.at_rest-requires-clause-rest
@@ -16,10 +15,8 @@ at_rest-requires-clause-kept g c κs within =
     kept_called c.self.invariant.own_locks
     (took_all c.apart-right.result.0 c.notify_all-right.result.0 c.args.cond c.notify_all-right.result.1 c.notify_all-right.ensures.pass)
     c.apart-right.ensures.kept
-    (c.count_taken-tallies.ensures g.N.LotName.conds (counts_in c.apart-right.result.0) (
-      omega (arith, c.self.invariant.own_locks, c.parking.ensures.keys.0, c.requires.cond.0),
-      omega (arith, c.self.invariant.own_locks, c.parking.ensures.keys.0, c.requires.cond.1, c.parking.ensures.keys.1),
-    ))
+    (c.count_taken-tallies.ensures g.N.LotName.conds (counts_in c.apart-right.result.0)
+    (among_conds c.args.self.now c.self.invariant.own_locks c.parking.ensures.keys.0 c.parking.ensures.keys.1 c.requires.cond))
 
 pub returns-clause-counted : goal.returns-clause-counted
 returns-clause-counted g c =

@@ -1,8 +1,8 @@
-use Rattle.std.proofs.Common.{sym, subst, arith}
+use Rattle.std.proofs.Common.{sym, subst}
 use Rattle.lot_waits.specs.Counts.{counts_in}
 use Rattle.lot_waits.specs.Notifying.{one_if}
 use Rattle.lot_sync.specs.Traces.{NotifyTrace}
-use Rattle.lot_sync.proofs.Calls.{TookMore, kept_called, took_some, rests_called, sees_more, sees_called_one}
+use Rattle.lot_sync.proofs.Calls.{TookMore, among_conds, kept_called, took_some, rests_called, sees_more, sees_called_one}
 use Rattle.lot_sync.proofs.lot.Lot.notify_one.Goals as goal
 
 pub at_rest-requires-clause-rest : goal.at_rest-requires-clause-rest
@@ -22,10 +22,8 @@ at_rest-requires-clause-kept g c κs within =
     (took_some c.apart-right.result.0 c.notify_one-right.result.0 c.args.cond 1
     (one_if c.notify_one-right.result.1) c.notify_one-right.ensures.pass))
     c.apart-right.ensures.kept
-    (c.count_taken-tallies.ensures g.N.LotName.conds (counts_in c.apart-right.result.0) (
-      omega (arith, c.self.invariant.own_locks, c.parking.ensures.keys.0, c.requires.cond.0),
-      omega (arith, c.self.invariant.own_locks, c.parking.ensures.keys.0, c.requires.cond.1, c.parking.ensures.keys.1),
-    ))
+    (c.count_taken-tallies.ensures g.N.LotName.conds (counts_in c.apart-right.result.0)
+    (among_conds c.args.self.now c.self.invariant.own_locks c.parking.ensures.keys.0 c.parking.ensures.keys.1 c.requires.cond))
 
 pub returns-clause-counted : goal.returns-clause-counted
 returns-clause-counted g c =

@@ -1,7 +1,6 @@
-use Rattle.std.proofs.Common.{arith}
 use Rattle.lot_waits.specs.Counts.{counts_in}
 use Rattle.lot_sync.specs.Traces.{NotifyTrace}
-use Rattle.lot_sync.proofs.Calls.{kept_called, took_some, rests_called, sees_more}
+use Rattle.lot_sync.proofs.Calls.{among_conds, kept_called, took_some, rests_called, sees_more}
 use Rattle.lot_sync.proofs.lot.Lot.notify_some.Goals as goal
 
 pub at_rest-requires-clause-rest : goal.at_rest-requires-clause-rest
@@ -18,10 +17,8 @@ at_rest-requires-clause-kept g c κs within =
     (took_some c.apart-right.result.0 c.notify_some-right.result.0 c.args.cond c.args.count c.notify_some-right.result.1
     c.notify_some-right.ensures.pass)
     c.apart-right.ensures.kept
-    (c.count_taken-tallies.ensures g.N.LotName.conds (counts_in c.apart-right.result.0) (
-      omega (arith, c.self.invariant.own_locks, c.parking.ensures.keys.0, c.requires.cond.0),
-      omega (arith, c.self.invariant.own_locks, c.parking.ensures.keys.0, c.requires.cond.1, c.parking.ensures.keys.1),
-    ))
+    (c.count_taken-tallies.ensures g.N.LotName.conds (counts_in c.apart-right.result.0)
+    (among_conds c.args.self.now c.self.invariant.own_locks c.parking.ensures.keys.0 c.parking.ensures.keys.1 c.requires.cond))
 
 pub returns-clause-counted : goal.returns-clause-counted
 returns-clause-counted g c =

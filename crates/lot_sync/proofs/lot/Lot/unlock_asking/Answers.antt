@@ -1,12 +1,9 @@
 use Rattle.std.proofs.Common.{inl, inr, false, sym, ap, subst}
-use Rattle.lot_scheme.specs.Standing.{LotStanding}
 use Rattle.lot_locks.specs.Released.{FreeTrace, IsFitting}
 use Rattle.lot_locks.specs.Standing.{LetsGo}
-use Rattle.lot_sync.specs.Lot.{◌≈◌, letting_go}
-use Rattle.lot_sync.specs.Traces.{Adds}
-use Rattle.lot_sync.specs.Passes.{pass_view_of, AreTallied}
-use Rattle.lot_sync.proofs.Adding.{alike_at, adds_at}
-use Rattle.lot_sync.proofs.Rests.{rests_free, leaves_all}
+use Rattle.lot_sync.specs.Passes.{AreTallied}
+use Rattle.lot_sync.proofs.Calls.{sees_left_at, adds_left}
+use Rattle.lot_sync.proofs.Rests.{rests_free}
 use Rattle.lot_sync.proofs.Holdings.{sees_left}
 use Rattle.lot_sync.proofs.lot.Lot.unlock_asking.Given.{Over}
 use Rattle.lot_sync.proofs.lot.Lot.unlock_asking.Goals.{Joined-freed, then-freed, else-freed}
@@ -46,23 +43,12 @@ at_rest-requires-clause-kept g c κs within =
 pub returns-clause-pass : goal.returns-clause-pass
 returns-clause-pass g c =
     let b = c.given_back-right.ensures in
-    let before = c.given_back-right.result.0 in
-    let went = let_go g (goal.at.returns-clause-pass g c).Joined-freed in
-    subst (λ k. c.at_rest.result ≈ letting_go c.args.pass k c.args.held.value) c.key-key.ensures
-    (subst (λ v. c.at_rest.result ≈ letting_go v c.key-key.result c.args.held.value) b.same
-    (alike_at c.at_rest.result (letting_go (pass_view_of before) c.key-key.result c.args.held.value)
-    c.if-freed.right.0 c.at_rest.ensures.pass
-    (leaves_all _ before c.if-freed.right.0 c.key-key.result c.args.held.value b.lies went)))
+    sees_left_at c.key-key.ensures b.same c.at_rest.ensures.pass b.lies (let_go g (goal.at.returns-clause-pass g c).Joined-freed)
 
 pub returns-clause-made : goal.returns-clause-made
 returns-clause-made g c =
-    let before = c.given_back-right.result.0 in
-    let went = let_go g (goal.at.returns-clause-made g c).Joined-freed in
-    subst
-    (λ k. Adds c.args.pass.made (FreeTrace c.args.pass.thread k c.if-freed.right.1) c.at_rest.result.made) c.key-key.ensures
-    (adds_at (λ t. FreeTrace t c.key-key.result c.if-freed.right.1) c.args.pass c.at_rest.result before
-    c.if-freed.right.0 went.did
-    (sym c.given_back-right.ensures.same) c.at_rest.ensures.pass (ap (λ (r : LotStanding g.row.V.Denot). r.did) went.is) went.freed)
+    adds_left (λ t k. FreeTrace t k c.if-freed.right.1) c.key-key.ensures c.given_back-right.ensures.same c.at_rest.ensures.pass
+    (let_go g (goal.at.returns-clause-made g c).Joined-freed) (λ told. told)
 
 pub returns-clause-seen : goal.returns-clause-seen
 returns-clause-seen g c =

@@ -3,12 +3,13 @@ use Rattle.lot_words.specs.Values.{IsIn}
 use Rattle.lot_words.specs.declared.views.Place.TheVariants.{Out}
 use Rattle.lot_scheme.specs.Standing.{LotStanding, placing}
 use Rattle.lot_locks.specs.declared.released.Released.TheVariants.{Quiet}
-use Rattle.lot_sync.specs.Lot.{◌≈◌, letting_go}
+use Rattle.lot_sync.specs.Lot.{◌≈◌}
 use Rattle.lot_sync.specs.Traces.{Adds, UnparkedTrace}
 use Rattle.lot_sync.specs.Passes.{pass_view_of}
 use Rattle.lot_sync.proofs.Adding.{alike_at, adds_at, quiet_trace}
+use Rattle.lot_sync.proofs.Calls.{sees_left_at, adds_left}
 use Rattle.lot_sync.proofs.Holdings.{sees_left}
-use Rattle.lot_sync.proofs.Rests.{rests_free, rests_parked, leaves_all, stays_all, one_lies}
+use Rattle.lot_sync.proofs.Rests.{rests_free, rests_parked, stays_all, one_lies}
 use Rattle.lot_sync.proofs.lot.Lot.unlock_unparked.Goals as goal
 
 pub at_rest-requires-clause-rest : goal.at_rest-requires-clause-rest
@@ -26,12 +27,7 @@ at_rest-requires-else-freed-clause-rest g c κs within =
 pub returns-then-freed-clause-freed : goal.returns-then-freed-clause-freed
 returns-then-freed-clause-freed g c =
     let b = c.given_back-right.ensures in
-    subst (λ k. c.at_rest.result ≈ letting_go c.args.pass k c.args.held.value) c.key-key.ensures
-    (subst (λ v. c.at_rest.result ≈ letting_go v c.key-key.result c.args.held.value) b.same
-    (alike_at c.at_rest.result (letting_go (pass_view_of c.given_back-right.result.0) c.key-key.result c.args.held.value)
-    c.free_unparked-right.result.0 c.at_rest.ensures.pass
-    (leaves_all _ c.given_back-right.result.0 c.free_unparked-right.result.0 c.key-key.result c.args.held.value b.lies
-    (rw c.if-freed.true at c.free_unparked-right.ensures))))
+    sees_left_at c.key-key.ensures b.same c.at_rest.ensures.pass b.lies (rw c.if-freed.true at c.free_unparked-right.ensures)
 
 pub returns-else-freed-clause-freed : goal.returns-else-freed-clause-freed
 returns-else-freed-clause-freed g c =
@@ -51,12 +47,8 @@ returns-else-freed-clause-freed g c =
 
 pub returns-then-freed-clause-made : goal.returns-then-freed-clause-made
 returns-then-freed-clause-made g c =
-    let went = rw c.if-freed.true at c.free_unparked-right.ensures in
-    subst (λ k. Adds c.args.pass.made (UnparkedTrace c.args.pass.thread k true) c.at_rest.result.made) c.key-key.ensures
-    (adds_at (λ t. UnparkedTrace t c.key-key.result true) c.args.pass c.at_rest.result c.given_back-right.result.0
-    c.free_unparked-right.result.0 went.did
-    (sym c.given_back-right.ensures.same) c.at_rest.ensures.pass (ap (λ (r : LotStanding g.row.V.Denot). r.did) went.is)
-    (quiet_trace _ _ went.did went.freed))
+    adds_left (λ t k. UnparkedTrace t k true) c.key-key.ensures c.given_back-right.ensures.same c.at_rest.ensures.pass
+    (rw c.if-freed.true at c.free_unparked-right.ensures) (quiet_trace _ _ _)
 
 pub returns-else-freed-clause-made : goal.returns-else-freed-clause-made
 returns-else-freed-clause-made g c =
