@@ -8,5 +8,4 @@ pub mod Owners
 pub mod SemSchedules
 pub mod Sound
 pub mod Waiters
-mod Idle
 mod Lending

@@ -86,11 +86,12 @@ Misses p k could q =
 abbrev pub IsAnyLeft : ℕ → Type 0
 IsAnyLeft word = 2 ≤ word
 
--- by an exchange of the word that a look found
+-- what comes of an exchange that was made, or not
 abbrev pub taken_after : Bool → Taken
 taken_after true = Got
 taken_after false = Busy
 
+-- by an exchange of the word that a look found
 abbrev pub TakesFrom : PassShown SemPassView → ℕ → ℕ → Taken → PassShown SemPassView → Type 0
 TakesFrom p k seen Got q = Notes p (one_permit_more p.own k) (Makes (SemTake p.thread k) (Saw true)) q
 TakesFrom p k seen Empty q = ⊥

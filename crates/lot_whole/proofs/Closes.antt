@@ -224,7 +224,8 @@ module _ {V Part : Type 0} (rule : CallersRule V Part) (z : LotSize) (opening : 
   line_is v agrees c (Sem q) h = ap (λ (a : SemaphorePart). a.sems.line c) (agrees sem) ∙ h.1.1
 
   pub told_to : Ended (lot_meaning rule z opening) passes roots ws ys
-      → ((t : ℕ) → t < z.threads → Any (λ (p : PassShown (LotPassView V)). p.thread ≡ t) passes) → All HasDone passes → IsToldTo z passes roots
+      → ((t : ℕ) → t < z.threads → Any (λ (p : PassShown (LotPassView V)). p.thread ≡ t) passes) → All HasDone passes
+      → IsToldTo z passes roots
   told_to ended all done =
       let told = ended_recounted (lot_meaning rule z opening) passes roots ws ys ended in
       record {

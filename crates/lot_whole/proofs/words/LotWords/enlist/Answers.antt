@@ -13,7 +13,8 @@ store_both-requires-clause-allows g c =
     let near = subst (λ (z : LotWordsShown g.row.V.Denot). c.args.lock < z.size.locks) (sym c.self.view_is) c.requires.lock.0 in
     both_of_kind (meaning g.V.Keeps start) c.word-word.ensures.is (λ _. 1) c.args.pass (cond_root c.args.root c.requires.cond)
     (λ _. Enlists c.args.pass (cond_of c.args.root) c.args.lock)
-    (enlists g.V.Keeps (size_of start) start.values.value.items c.args.pass (cond_of c.args.root) c.requires.idle c.args.lock near c.requires.lock.1
+    (enlists g.V.Keeps (size_of start) start.values.value.items c.args.pass (cond_of c.args.root) c.requires.idle c.args.lock near
+    c.requires.lock.1
     c.requires.above)
 
 pub store_both-requires-clause-names : goal.store_both-requires-clause-names
