@@ -65,6 +65,14 @@ pub(crate) fn enter<V: Keeps + Send, N: LotName<V> + Send + Sync, C: Tally + Sen
     }
 }
 
+/// Who uses a lot of a test, in which there is a lock at least.
+#[derive(Drop)]
+pub(crate) struct Visitor<'a, V: Keeps + Send, N: LotName<V> + Send + Sync, T> {
+    pub(crate) rt: &'a T,
+    pub(crate) lot: &'a Lot<V, N>,
+    ghost locks: { 0 < lot.now.locks },
+}
+
 /// The pass of this thread, which is the first that was left.
 pub(crate) fn take_pass<V: Keeps + Send, N: LotName<V> + Send + Sync, T: Wait + Abort>(
     rt: &T,

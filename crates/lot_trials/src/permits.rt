@@ -7,8 +7,8 @@ ghost use Rattle.lot_sync.specs.Opened.{IsNamed};
 use crate::asserts::{copies, equal, failed};
 use crate::counts::Count;
 use crate::passes::{enter, start};
-use crate::schedules::{come, leave, on_conds};
-use crate::steps::Step;
+use crate::schedules::{come, leave, on_lot};
+use crate::steps::{Memory, Step};
 use crate::waits::COND;
 use lot_calls::finish;
 use lot_sync::{Freed, Lot, LotName, Moment, Opened, Pass, Released};
@@ -47,7 +47,7 @@ static TWO_PERMITS: [(usize, Step); 10] = [
 #[test]
 fn try_acquire_succeeds(rt: HostRuntime) {
     let parts = [come(3), &TWO_PERMITS, leave(3)];
-    on_conds(&rt, rt.alloc(), 3, &parts, (0, 0));
+    on_lot(&rt, rt.alloc(), 3, &parts, (0, 0), Memory::Ample);
 }
 
 /// One pass gets both permits, and finds that none is left.
@@ -62,7 +62,7 @@ static BOTH_FOR_ONE: [(usize, Step); 5] = [
 #[test]
 fn one_pass_gets_both_permits(rt: HostRuntime) {
     let parts = [come(1), &BOTH_FOR_ONE, leave(1)];
-    on_conds(&rt, rt.alloc(), 1, &parts, (0, 0));
+    on_lot(&rt, rt.alloc(), 1, &parts, (0, 0), Memory::Ample);
 }
 
 /// The one permit is given back at moment 0 while another thread sleeps for it, which gets it.
@@ -78,7 +78,7 @@ static WOKEN_FOR_A_PERMIT: [(usize, Step); 6] = [
 #[test]
 fn a_release_wakes_a_sleeper_at_moment_0(rt: HostRuntime) {
     let parts = [come(2), &WOKEN_FOR_A_PERMIT, leave(2)];
-    on_conds(&rt, rt.alloc(), 2, &parts, (0, 0));
+    on_lot(&rt, rt.alloc(), 2, &parts, (0, 0), Memory::Ample);
 }
 
 /// The one permit is given back at the fair moment while another thread sleeps for it, and a waiting thread is notified
@@ -110,7 +110,7 @@ static MOMENTS: [(usize, Step); 20] = [
 #[test]
 fn permits_and_their_moments(rt: HostRuntime) {
     let parts = [come(2), &MOMENTS, leave(2)];
-    on_conds(&rt, rt.alloc(), 2, &parts, (1, 0));
+    on_lot(&rt, rt.alloc(), 2, &parts, (1, 0), Memory::Ample);
 }
 
 /// Shows that the semaphore, of which two passes hold a permit each, opened with two at least. It changes nothing.

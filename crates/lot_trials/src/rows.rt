@@ -6,7 +6,8 @@ ghost use Rattle.lot_sync.specs.Opened.{IsNamed};
 use crate::asserts::{copies, equal, failed, is_so};
 use crate::counts::{Count, Gathered, end, free, try_own, word};
 use crate::many::is_refused;
-use crate::schedules::{Schedule, come, follow, leave, on_conds, on_lot, try_start};
+use crate::passes::Visitor;
+use crate::schedules::{Schedule, come, follow, leave, on_lot, try_start};
 use crate::steps::{Memory, Step, may_be_refused};
 use lot_sync::{Lot, LotName, OpenFault, Opened, Pass, RegisterFault, Released};
 use std::alloc::Global;
@@ -23,7 +24,7 @@ fn on_locks<T: Threads + Wait + Sync + Abort>(
     threads: usize,
     parts: &[&[(usize, Step)]],
 ) {
-    on_conds(rt, alloc, threads, parts, (0, 0));
+    on_lot(rt, alloc, threads, parts, (0, 0), Memory::Ample);
 }
 
 static TRIED: [(usize, Step); 5] = [
@@ -435,47 +436,38 @@ fn an_opening_that_fails_gives_the_values_back_in_order(rt: HostRuntime) {
     }
 }
 
-/// Tries a lock that is free, and lets it go where nobody is parked.
-fn try_and_free<N: LotName<Count> + Send + Sync, T: Wait + Abort>(
-    rt: &T,
-    lot: &Lot<Count, N>,
-    pass: Pass<Count, N>,
-) -> Pass<Count, N>
-    requires key { 0 < lot.now.locks }
-    requires free { OwnsNone pass }
-    ensures { OwnsNone result }
-{
-    equal(rt, word(lot, 0), 0);
-    let (pass, got) = try_own(lot, pass, 0);
-    let Some(held) = got else {
-        failed(rt, "the lock is free")
-    };
-    equal(rt, word(lot, 0), 1);
-    let (pass, back) = free(lot, pass, held);
-    match back {
-        None => {}
-        Some(_held) => failed(rt, "nobody is parked"),
-    }
-    equal(rt, word(lot, 0), 0);
-    pass
-}
-
-/// The lot's one thread registers, unless memory is refused, tries lock 0, which takes none, and leaves.
-fn tried_alone<N: LotName<Count> + Send + Sync, T: Wait + Abort>(
-    rt: &T,
-    lot: &Lot<Count, N>,
-    memory: Memory,
-)
-    requires { 0 < lot.now.locks }
-{
-    match lot.register(rt) {
-        Ok(pass) => {
-            let pass = try_and_free(rt, lot, pass);
-            lot.leave(rt, pass);
+impl<N: LotName<Count> + Send + Sync, T: Wait + Abort> Visitor<'_, Count, N, T> {
+    /// Tries a lock that is free, and lets it go where nobody is parked.
+    fn try_and_free(&self, pass: Pass<Count, N>) -> Pass<Count, N>
+        requires free { OwnsNone pass }
+        ensures { OwnsNone result }
+    {
+        equal(self.rt, word(self.lot, 0), 0);
+        let (pass, got) = try_own(self.lot, pass, 0);
+        let Some(held) = got else {
+            failed(self.rt, "the lock is free")
+        };
+        equal(self.rt, word(self.lot, 0), 1);
+        let (pass, back) = free(self.lot, pass, held);
+        match back {
+            None => {}
+            Some(_held) => failed(self.rt, "nobody is parked"),
         }
-        Err(fault) => {
-            equal(rt, fault, RegisterFault::NoMemory);
-            may_be_refused(rt, memory);
+        equal(self.rt, word(self.lot, 0), 0);
+        pass
+    }
+
+    /// The lot's one thread registers, unless memory is refused, tries lock 0, which takes none, and leaves.
+    fn try_alone(&self, memory: Memory) {
+        match self.lot.register(self.rt) {
+            Ok(pass) => {
+                let pass = self.try_and_free(pass);
+                self.lot.leave(self.rt, pass);
+            }
+            Err(fault) => {
+                equal(self.rt, fault, RegisterFault::NoMemory);
+                may_be_refused(self.rt, memory);
+            }
         }
     }
 }
@@ -492,7 +484,7 @@ fn started_and_closed<N: LotName<Count> + Send + Sync, T: Wait + Abort>(
 {
     match try_start::<N, T>(rt, alloc, 1, opened, memory) {
         Ok((lot, passes)) => {
-            tried_alone(rt, &lot, memory);
+            Visitor { rt, lot: &lot }.try_alone(memory);
             let (values, _) = end(rt, lot, passes, 1, Gathered::Left);
             values
         }

@@ -7,7 +7,7 @@ ghost use Rattle.lot_trials.specs.Runs.{HasTurned, HasWholeRun};
 
 use crate::asserts::{copies, equal, is_so};
 use crate::pairs::{close_both, work_both};
-use crate::passes::{enter, open, start};
+use crate::passes::{Visitor, enter, open, start};
 use crate::values::Number;
 use lot_sync::{Lot, LotName, Moment, Opened, Pass};
 use std::alloc::Global;
@@ -17,21 +17,20 @@ use std::sync::Wait;
 use std::test::*;
 use std::thread::Threads;
 
-/// Gets lock 0, counts the turn and lets the lock go: the pass shows how.
-fn turn<N: LotName<Number> + Send + Sync, T: Wait>(
-    rt: &T,
-    lot: &Lot<Number, N>,
-    pass: Pass<Number, N>,
-) -> Pass<Number, N>
-    requires locks { 0 < lot.now.locks }
-    requires free { OwnsNone pass }
-    ensures { HasTurned pass.thread result }
-{
-    let (pass, mut held) = lot.lock(rt, pass, 0);
-    let turns = held.value_mut();
-    turns.n = turns.n.wrapping_add(1);
-    let (pass, _) = lot.unlock(rt, pass, held, Moment { now: 0, word: 7 });
-    pass
+impl<N: LotName<Number> + Send + Sync, T: Wait> Visitor<'_, Number, N, T> {
+    /// Gets lock 0, counts the turn and lets the lock go: the pass shows how.
+    fn turn(&self, pass: Pass<Number, N>) -> Pass<Number, N>
+        requires free { OwnsNone pass }
+        ensures { HasTurned pass.thread result }
+    {
+        let (pass, mut held) = self.lot.lock(self.rt, pass, 0);
+        let turns = held.value_mut();
+        turns.n = turns.n.wrapping_add(1);
+        let (pass, _) = self
+            .lot
+            .unlock(self.rt, pass, held, Moment { now: 0, word: 7 });
+        pass
+    }
 }
 
 /// Two threads have a turn each, and the lot is closed: all that was done with it is one run of the model, from its
@@ -50,10 +49,11 @@ fn turn_and_close<N: LotName<Number> + Send + Sync, T: Threads + Wait + Sync + A
     ensures long { vec_len result ≡ 1 }
     ensures run { HasWholeRun N.LotName }
 {
+    let visitor = Visitor { rt, lot: &lot };
     let turns = |pass: Pass<Number, N>| -> Pass<Number, N>
-        requires { (0 < lot.locks) × OwnsNone pass }
+        requires { OwnsNone pass }
         ensures { HasTurned pass.thread result }
-    { turn(rt, &lot, pass) };
+    { visitor.turn(pass) };
     let (first, second) = work_both(rt, &turns, &turns, first, second);
     close_both(rt, lot, first, second, passes).0
 }

@@ -5,7 +5,7 @@ ghost use Rattle.lot_trials.specs.Schedules.{HasSizes};
 
 use crate::asserts::{equal, failed, is_so};
 use crate::counts::{Count, Gathered, end};
-use crate::standing::{Standing, give_up, make_step};
+use crate::standing::{OnLot, Standing};
 use crate::steps::{
     CONDS, LOCKS, Memory, PERMITS, Progress, Step, allow_next, may_be_made, may_be_refused,
 };
@@ -18,79 +18,52 @@ use std::sync::atomic::{AtomicU64, Ordering};
 use std::thread;
 use std::thread::Threads;
 
-/// Makes a row before which all are made.
-fn make_row<N: LotName<Count> + Send + Sync, T: Wait + Abort>(
-    rt: &T,
-    lot: &Lot<Count, N>,
-    progress: &Progress,
-    standing: Standing<N>,
-    step: Step,
-) -> Standing<N>
-    requires { HasSizes lot.now }
-{
-    if step.sleeps() {
-        allow_next(progress);
-        return make_step(rt, lot, progress, standing, step);
+impl<N: LotName<Count> + Send + Sync, T: Wait + Abort> OnLot<'_, N, T> {
+    /// Makes a row before which all are made.
+    fn make_row(&self, standing: Standing<N>, step: Step) -> Standing<N> {
+        if step.sleeps() {
+            allow_next(self.progress);
+            return self.make_step(standing, step);
+        }
+        let then = self.make_step(standing, step);
+        allow_next(self.progress);
+        then
     }
-    let then = make_step(rt, lot, progress, standing, step);
-    allow_next(progress);
-    then
-}
 
-/// Makes the rows of one thread, which has left then.
-fn make_rows<N: LotName<Count> + Send + Sync, T: Wait + Abort>(
-    rt: &T,
-    lot: &Lot<Count, N>,
-    progress: &Progress,
-    rows: &[(usize, Step)],
-    number: usize,
-)
-    requires { HasSizes lot.now }
-{
-    let mut standing = Standing::Out;
-    for row in 0..rows.len() {
-        let (who, step) = rows[row];
-        if who == number && may_be_made(rt, progress, row) {
-            standing = make_row(rt, lot, progress, standing, step);
+    /// Makes the rows of one thread, which has left then.
+    fn make_rows(&self, rows: &[(usize, Step)], number: usize) {
+        let mut standing = Standing::Out;
+        for row in 0..rows.len() {
+            let (who, step) = rows[row];
+            if who == number && may_be_made(self.rt, self.progress, row) {
+                standing = self.make_row(standing, step);
+            }
+        }
+        if self.progress.given_up.load(Ordering::SeqCst) != 0 {
+            self.give_up(standing);
+            return;
+        }
+        match standing {
+            Standing::Out => {}
+            _ => failed(self.rt, "a thread has its pass still"),
         }
     }
-    if progress.given_up.load(Ordering::SeqCst) != 0 {
-        give_up(rt, lot, standing);
-        return;
-    }
-    match standing {
-        Standing::Out => {}
-        _ => failed(rt, "a thread has its pass still"),
-    }
 }
 
-/// Starts a thread for each that has a row, and waits for their end.
-fn make_all_rows<N: LotName<Count> + Send + Sync, T: Threads + Wait + Sync + Abort>(
-    rt: &T,
-    lot: &Lot<Count, N>,
-    progress: &Progress,
-    rows: &[(usize, Step)],
-    threads: usize,
-)
-    requires { HasSizes lot.now }
-{
-    thread::scope(
-        thread::scope_env(),
-        rt,
-        |scope|
-            requires { HasSizes lot.now }
-        {
+impl<N: LotName<Count> + Send + Sync, T: Threads + Wait + Sync + Abort> OnLot<'_, N, T> {
+    /// Starts a thread for each that has a row, and waits for their end.
+    fn make_all_rows(&self, rows: &[(usize, Step)]) {
+        let threads = threads_of(rows);
+        thread::scope(thread::scope_env(), self.rt, |scope| {
             for number in 0..threads {
-                let job = move ||
-                    requires { HasSizes lot.now }
-                { make_rows(rt, lot, progress, rows, number) };
+                let job = move || self.make_rows(rows, number);
                 if scope.spawn(job).is_err() {
-                    may_be_refused(rt, progress.memory);
-                    progress.given_up.store(1, Ordering::SeqCst);
+                    may_be_refused(self.rt, self.progress.memory);
+                    self.progress.given_up.store(1, Ordering::SeqCst);
                 }
             }
-        },
-    );
+        });
+    }
 }
 
 /// How many threads have rows.
@@ -178,17 +151,6 @@ pub(crate) fn on_lot<T: Threads + Wait + Sync + Abort>(
         memory,
     };
     follow(rt, alloc, schedule);
-}
-
-/// The same, where no request is refused.
-pub(crate) fn on_conds<T: Threads + Wait + Sync + Abort>(
-    rt: &T,
-    alloc: Global,
-    threads: usize,
-    parts: &[&[(usize, Step)]],
-    waits: (u64, u64),
-) {
-    on_lot(rt, alloc, threads, parts, waits, Memory::Ample);
 }
 
 /// Makes the schedule on a lot of its own, which is closed then.
@@ -281,13 +243,12 @@ fn followed<N: LotName<Count> + Send + Sync, T: Threads + Wait + Sync + Abort>(
         gate: AtomicU64::new(0),
         met: AtomicU64::new(0),
     };
-    make_all_rows(
+    let on_lot = OnLot {
         rt,
-        &lot,
-        &progress,
-        schedule.rows,
-        threads_of(schedule.rows),
-    );
+        lot: &lot,
+        progress: &progress,
+    };
+    on_lot.make_all_rows(schedule.rows);
     let (values, ledger) = end(rt, lot, passes, schedule.threads, schedule.how);
     equal(rt, (ledger.called[0], ledger.called[12]), schedule.waits);
     equal(rt, (ledger.woken[0], ledger.woken[12]), schedule.waits);

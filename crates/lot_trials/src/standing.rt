@@ -1,5 +1,5 @@
 //! What a thread of a schedule has between its steps, and how it makes each.
-ghost use Rattle.std.specs.Prelude.{◌≡◌, ◌≤◌, ◌<◌};
+ghost use Rattle.std.specs.Prelude.{◌≤◌, ◌<◌, MatchOption};
 ghost use Rattle.lot_sync.specs.Lot.{OwnsNone};
 ghost use Rattle.lot_sync.specs.Holding.{Holding, HoldingBoth};
 ghost use Rattle.lot_trials.specs.Schedules.{HasSizes};
@@ -10,13 +10,22 @@ use crate::counts::{
     own_at_gate, own_second, raise, release, release_asking, release_fairly, release_first,
     try_own, wait_at_gate, wait_once, word,
 };
-use crate::holding::{Holder, HolderOfTwo, try_to_hold, when_holder, when_holder_of_two};
+use crate::holding::{Holder, HolderOfTwo};
 use crate::passes::enter;
 use crate::steps::{CONDS, LOCKS, PERMITS, Progress, Step, may_be_refused};
 use lot_sync::{Held, Lot, LotName, Pass, RegisterFault};
 use std::process::Abort;
 use std::sync::Wait;
 use std::sync::atomic::Ordering;
+
+/// The lot of a schedule, as its threads see it, and how far they have come.
+#[derive(Drop)]
+pub(crate) struct OnLot<'a, N: LotName<Count> + Send + Sync, T> {
+    pub(crate) rt: &'a T,
+    pub(crate) lot: &'a Lot<Count, N>,
+    pub(crate) progress: &'a Progress,
+    ghost sizes: { HasSizes lot.now },
+}
 
 /// A pass that owns no lock and holds no permit.
 pub(crate) struct Calm<N: LotName<Count> + Send + Sync> {
@@ -51,6 +60,19 @@ pub(crate) enum Standing<N: LotName<Count> + Send + Sync> {
     HolderOfTwo(HolderOfTwo<N>),
 }
 
+/// The pass owns this lock, or nothing.
+fn owner_or_calm<N: LotName<Count> + Send + Sync>(
+    pass: Pass<Count, N>,
+    lock: Option<Held<Count, N>>,
+) -> Standing<N>
+    requires { MatchOption lock (OwnsNone pass) (λ held. (held.key < 14) × Holding (λ x y. x.n ≤ y.n) pass held) }
+{
+    match lock {
+        Some(held) => Standing::Owner(Owner { pass, held }),
+        None => Standing::Calm(Calm { pass }),
+    }
+}
+
 /// The key is a lock's, or the test fails.
 fn lock_key(rt: &impl Abort, key: usize)
     ensures { key < 14 }
@@ -81,391 +103,304 @@ fn any_key(rt: &impl Abort, key: usize)
     is_so(rt, key < LOCKS + CONDS + PERMITS.len(), "it is a key");
 }
 
-/// Looks for what the step says, if that is all that it does.
-fn looks<N: LotName<Count> + Send + Sync, T: Wait + Abort>(
-    rt: &T,
-    lot: &Lot<Count, N>,
-    progress: &Progress,
-    step: Step,
-) -> bool
-    requires { HasSizes lot.now }
-{
-    match step {
-        Step::Word(key, wanted) => {
-            lock_key(rt, key);
-            equal(rt, word(lot, key), wanted);
+impl<N: LotName<Count> + Send + Sync, T: Wait + Abort> OnLot<'_, N, T> {
+    /// Looks for what the step says, if that is all that it does.
+    fn looks(&self, step: Step) -> bool {
+        match step {
+            Step::Word(key, wanted) => {
+                lock_key(self.rt, key);
+                equal(self.rt, word(self.lot, key), wanted);
+            }
+            Step::AwaitFree(key) => {
+                lock_key(self.rt, key);
+                is_so(self.rt, is_free(self.lot, key), "a wait lets its lock go");
+            }
+            Step::Line(key, count) => {
+                any_key(self.rt, key);
+                equal(self.rt, self.lot.line_length(self.rt, key), count);
+            }
+            Step::AwaitLine(key, count) => {
+                any_key(self.rt, key);
+                await_line(self.rt, self.lot, key, count);
+            }
+            Step::Size(buckets) => equal(self.rt, self.lot.table_size(self.rt), buckets),
+            Step::EitherSize(few, many) => {
+                let buckets = self.lot.table_size(self.rt);
+                is_so(self.rt, buckets == few || buckets == many, "it has grown");
+            }
+            Step::OpenGate => self.progress.gate.store(1, Ordering::SeqCst),
+            Step::Full => self.is_full(),
+            _ => return false,
         }
-        Step::AwaitFree(key) => {
-            lock_key(rt, key);
-            is_so(rt, is_free(lot, key), "a wait lets its lock go");
-        }
-        Step::Line(key, count) => {
-            any_key(rt, key);
-            equal(rt, lot.line_length(rt, key), count);
-        }
-        Step::AwaitLine(key, count) => {
-            any_key(rt, key);
-            await_line(rt, lot, key, count);
-        }
-        Step::Size(buckets) => equal(rt, lot.table_size(rt), buckets),
-        Step::EitherSize(few, many) => {
-            let buckets = lot.table_size(rt);
-            is_so(rt, buckets == few || buckets == many, "it has grown");
-        }
-        Step::OpenGate => progress.gate.store(1, Ordering::SeqCst),
-        Step::Full => is_full(rt, lot),
-        _ => return false,
+        true
     }
-    true
-}
 
-/// No pass is in.
-fn is_full<N: LotName<Count> + Send + Sync, T: Wait + Abort>(rt: &T, lot: &Lot<Count, N>) {
-    match lot.register(rt) {
-        Ok(_pass) => failed(rt, "a pass more than there are"),
-        Err(fault) => equal(rt, fault, RegisterFault::Full),
-    }
-}
-
-/// A pass. Where memory is refused, the table and the line of lock 0 are as before, and the next registration gives it.
-fn registered<N: LotName<Count> + Send + Sync, T: Wait + Abort>(
-    rt: &T,
-    lot: &Lot<Count, N>,
-    progress: &Progress,
-) -> Calm<N>
-    requires { HasSizes lot.now }
-{
-    let before = (lot.table_size(rt), lot.line_length(rt, 0));
-    match lot.register(rt) {
-        Ok(pass) => Calm { pass },
-        Err(fault) => {
-            equal(rt, fault, RegisterFault::NoMemory);
-            may_be_refused(rt, progress.memory);
-            equal(rt, (lot.table_size(rt), lot.line_length(rt, 0)), before);
-            let pass = enter(rt, lot);
-            Calm { pass }
+    /// No pass is in.
+    fn is_full(&self) {
+        match self.lot.register(self.rt) {
+            Ok(_pass) => failed(self.rt, "a pass more than there are"),
+            Err(fault) => equal(self.rt, fault, RegisterFault::Full),
         }
     }
-}
 
-/// A step of a thread that has no pass: it registers.
-fn when_out<N: LotName<Count> + Send + Sync, T: Wait + Abort>(
-    rt: &T,
-    lot: &Lot<Count, N>,
-    progress: &Progress,
-    step: Step,
-) -> Calm<N>
-    requires { HasSizes lot.now }
-{
-    let calm = registered(rt, lot, progress);
-    match step {
-        // (where the schedule is given up, another may have left before)
-        Step::Register(wanted) if progress.given_up.load(Ordering::SeqCst) == 0 => {
-            equal(rt, calm.pass.thread(), wanted);
+    /// A pass. Where memory is refused, the table and the line of lock 0 are as before, and the next registration gives
+    /// it.
+    fn registered(&self) -> Calm<N> {
+        let before = (
+            self.lot.table_size(self.rt),
+            self.lot.line_length(self.rt, 0),
+        );
+        match self.lot.register(self.rt) {
+            Ok(pass) => Calm { pass },
+            Err(fault) => {
+                equal(self.rt, fault, RegisterFault::NoMemory);
+                may_be_refused(self.rt, self.progress.memory);
+                equal(
+                    self.rt,
+                    (
+                        self.lot.table_size(self.rt),
+                        self.lot.line_length(self.rt, 0),
+                    ),
+                    before,
+                );
+                let pass = enter(self.rt, self.lot);
+                Calm { pass }
+            }
         }
-        Step::Register(_) | Step::RegisterBeside => {}
-        _ => failed(rt, "a thread without a pass registers first"),
     }
-    calm
-}
 
-/// A step of a thread that owns nothing, by which it gets a lock or a permit, or leaves.
-fn when_calm<N: LotName<Count> + Send + Sync, T: Wait + Abort>(
-    rt: &T,
-    lot: &Lot<Count, N>,
-    progress: &Progress,
-    calm: Calm<N>,
-    step: Step,
-) -> Standing<N>
-    requires { HasSizes lot.now }
-{
-    let Calm { pass } = calm;
-    match step {
-        Step::Lock(key) | Step::Sleep(key) => {
-            lock_key(rt, key);
-            let (pass, held) = own(rt, lot, pass, key);
-            Standing::Owner(Owner { pass, held })
+    /// A step of a thread that has no pass: it registers.
+    fn when_out(&self, step: Step) -> Calm<N> {
+        let calm = self.registered();
+        match step {
+            // (where the schedule is given up, another may have left before)
+            Step::Register(wanted) if self.progress.given_up.load(Ordering::SeqCst) == 0 => {
+                equal(self.rt, calm.pass.thread(), wanted);
+            }
+            Step::Register(_) | Step::RegisterBeside => {}
+            _ => failed(self.rt, "a thread without a pass registers first"),
         }
-        Step::SleepAtGate(key, sleeps) => {
-            lock_key(rt, key);
-            let (pass, held, runs) = own_at_gate(rt, lot, pass, key, &progress.gate);
-            equal(rt, runs, sleeps);
-            Standing::Owner(Owner { pass, held })
-        }
-        Step::TryLock(key, wanted) => try_to_own(rt, lot, Calm { pass }, key, wanted),
-        Step::Acquire(key) | Step::SleepFor(key) => {
-            sem_key(rt, key);
-            let (pass, permit) = lot.acquire(rt, pass, key);
-            Standing::Holder(Holder { pass, permit })
-        }
-        Step::TryAcquire(key, wanted) => try_to_hold(rt, lot, Calm { pass }, key, wanted),
-        Step::Leave => {
-            lot.leave(rt, pass);
-            Standing::Out
-        }
-        _ => Standing::Calm(notify(rt, lot, Calm { pass }, step)),
+        calm
     }
-}
 
-/// A step of a thread that owns nothing, by which it notifies.
-fn notify<N: LotName<Count> + Send + Sync, T: Wait + Abort>(
-    rt: &T,
-    lot: &Lot<Count, N>,
-    calm: Calm<N>,
-    step: Step,
-) -> Calm<N>
-    requires { HasSizes lot.now }
-{
-    let Calm { pass } = calm;
-    match step {
-        Step::NotifyOne(cond, now, wanted) => {
-            cond_key(rt, cond);
-            let (pass, took) = call_one(rt, lot, pass, cond, now);
-            equal(rt, took, wanted);
-            Calm { pass }
+    /// A step of a thread that owns nothing, by which it gets a lock or a permit, or leaves.
+    fn when_calm(&self, calm: Calm<N>, step: Step) -> Standing<N> {
+        let Calm { pass } = calm;
+        match step {
+            Step::Lock(key) | Step::Sleep(key) => {
+                lock_key(self.rt, key);
+                let (pass, held) = own(self.rt, self.lot, pass, key);
+                Standing::Owner(Owner { pass, held })
+            }
+            Step::SleepAtGate(key, sleeps) => {
+                lock_key(self.rt, key);
+                let gate = &self.progress.gate;
+                let (pass, held, runs) = own_at_gate(self.rt, self.lot, pass, key, gate);
+                equal(self.rt, runs, sleeps);
+                Standing::Owner(Owner { pass, held })
+            }
+            Step::TryLock(key, wanted) => self.try_to_own(Calm { pass }, key, wanted),
+            Step::Acquire(key) | Step::SleepFor(key) => {
+                sem_key(self.rt, key);
+                let (pass, permit) = self.lot.acquire(self.rt, pass, key);
+                Standing::Holder(Holder { pass, permit })
+            }
+            Step::TryAcquire(key, wanted) => self.try_to_hold(Calm { pass }, key, wanted),
+            Step::Leave => {
+                self.lot.leave(self.rt, pass);
+                Standing::Out
+            }
+            _ => Standing::Calm(self.notify(Calm { pass }, step)),
         }
-        Step::NotifySome(cond, count, wanted) => {
-            cond_key(rt, cond);
-            is_so(rt, 1 <= count, "somebody is asked for");
-            is_so(rt, count <= 256, "no more than there may be");
-            let (pass, taken) = call_some(rt, lot, pass, cond, count);
-            equal(rt, taken, wanted);
-            Calm { pass }
-        }
-        Step::NotifyAll(cond, wanted) => {
-            cond_key(rt, cond);
-            let (pass, count) = call_all(rt, lot, pass, cond);
-            equal(rt, count, wanted);
-            Calm { pass }
-        }
-        Step::HasWaiters(cond, wanted) => {
-            cond_key(rt, cond);
-            let (pass, has) = lot.has_waiters(pass, cond);
-            equal(rt, has, wanted);
-            Calm { pass }
-        }
-        _ => failed(rt, "no step of a thread that owns nothing"),
     }
-}
 
-/// `try_lock`, with what is wanted of it.
-fn try_to_own<N: LotName<Count> + Send + Sync, T: Wait + Abort>(
-    rt: &T,
-    lot: &Lot<Count, N>,
-    calm: Calm<N>,
-    key: usize,
-    wanted: bool,
-) -> Standing<N>
-    requires { HasSizes lot.now }
-{
-    let Calm { pass } = calm;
-    lock_key(rt, key);
-    let (pass, got) = try_own(lot, pass, key);
-    equal(rt, got.is_some(), wanted);
-    match got {
-        Some(held) => Standing::Owner(Owner { pass, held }),
-        None => Standing::Calm(Calm { pass }),
+    /// A step of a thread that owns nothing, by which it notifies.
+    fn notify(&self, calm: Calm<N>, step: Step) -> Calm<N> {
+        let Calm { pass } = calm;
+        match step {
+            Step::NotifyOne(cond, now, wanted) => {
+                cond_key(self.rt, cond);
+                let (pass, took) = call_one(self.rt, self.lot, pass, cond, now);
+                equal(self.rt, took, wanted);
+                Calm { pass }
+            }
+            Step::NotifySome(cond, count, wanted) => {
+                cond_key(self.rt, cond);
+                is_so(self.rt, 1 <= count, "somebody is asked for");
+                is_so(self.rt, count <= 256, "no more than there may be");
+                let (pass, taken) = call_some(self.rt, self.lot, pass, cond, count);
+                equal(self.rt, taken, wanted);
+                Calm { pass }
+            }
+            Step::NotifyAll(cond, wanted) => {
+                cond_key(self.rt, cond);
+                let (pass, count) = call_all(self.rt, self.lot, pass, cond);
+                equal(self.rt, count, wanted);
+                Calm { pass }
+            }
+            Step::HasWaiters(cond, wanted) => {
+                cond_key(self.rt, cond);
+                let (pass, has) = self.lot.has_waiters(pass, cond);
+                equal(self.rt, has, wanted);
+                Calm { pass }
+            }
+            _ => failed(self.rt, "no step of a thread that owns nothing"),
+        }
     }
-}
 
-/// A step of a thread that owns one lock.
-fn when_owner<N: LotName<Count> + Send + Sync, T: Wait + Abort>(
-    rt: &T,
-    lot: &Lot<Count, N>,
-    progress: &Progress,
-    owner: Owner<N>,
-    step: Step,
-) -> Standing<N>
-    requires { HasSizes lot.now }
-{
-    match step {
-        Step::Lock(key) => Standing::OwnerOfTwo(own_another(rt, lot, owner, key)),
-        Step::Raise(wanted) => {
-            let Owner { pass, held } = owner;
-            let (pass, held) = raise(rt, pass, held, wanted);
-            Standing::Owner(Owner { pass, held })
-        }
-        Step::NotifyOne(cond, _, wanted) => {
-            cond_key(rt, cond);
-            let Owner { pass, held } = owner;
-            let (pass, held, took) = call_owning(rt, lot, pass, held, cond);
-            equal(rt, took, wanted);
-            Standing::Owner(Owner { pass, held })
-        }
-        Step::UnlockUnparked(wanted) => try_to_free(rt, lot, owner, wanted),
-        Step::Meet => {
-            progress.met.fetch_add(1, Ordering::SeqCst);
-            await_count(rt, &progress.met, 2);
-            Standing::Owner(owner)
-        }
-        Step::Wait(_, _) | Step::WaitAtGate(_) => {
-            Standing::Calm(wait(rt, lot, progress, owner, step))
-        }
-        _ => Standing::Calm(let_go(rt, lot, owner, step)),
+    /// `try_lock`, with what is wanted of it.
+    fn try_to_own(&self, calm: Calm<N>, key: usize, wanted: bool) -> Standing<N> {
+        let Calm { pass } = calm;
+        lock_key(self.rt, key);
+        let (pass, got) = try_own(self.lot, pass, key);
+        equal(self.rt, got.is_some(), wanted);
+        owner_or_calm(pass, got)
     }
-}
 
-/// `lock` of another lock.
-fn own_another<N: LotName<Count> + Send + Sync, T: Wait + Abort>(
-    rt: &T,
-    lot: &Lot<Count, N>,
-    owner: Owner<N>,
-    key: usize,
-) -> OwnerOfTwo<N>
-    requires { HasSizes lot.now }
-{
-    let Owner { pass, held } = owner;
-    lock_key(rt, key);
-    is_so(rt, key != held.key(), "it has this lock");
-    let (pass, first, second) = own_second(rt, lot, pass, held, key);
-    OwnerOfTwo {
-        pass,
-        first,
-        second,
+    /// A step of a thread that owns one lock.
+    fn when_owner(&self, owner: Owner<N>, step: Step) -> Standing<N> {
+        match step {
+            Step::Lock(key) => Standing::OwnerOfTwo(self.own_another(owner, key)),
+            Step::Raise(wanted) => {
+                let Owner { pass, held } = owner;
+                let (pass, held) = raise(self.rt, pass, held, wanted);
+                Standing::Owner(Owner { pass, held })
+            }
+            Step::NotifyOne(cond, _, wanted) => {
+                cond_key(self.rt, cond);
+                let Owner { pass, held } = owner;
+                let (pass, held, took) = call_owning(self.rt, self.lot, pass, held, cond);
+                equal(self.rt, took, wanted);
+                Standing::Owner(Owner { pass, held })
+            }
+            Step::UnlockUnparked(wanted) => self.try_to_free(owner, wanted),
+            Step::Meet => {
+                self.progress.met.fetch_add(1, Ordering::SeqCst);
+                await_count(self.rt, &self.progress.met, 2);
+                Standing::Owner(owner)
+            }
+            Step::Wait(_, _) | Step::WaitAtGate(_) => { Standing::Calm(self.wait(owner, step)) }
+            _ => Standing::Calm(self.let_go(owner, step)),
+        }
     }
-}
 
-/// `unlock_unparked`, with what is wanted of it.
-fn try_to_free<N: LotName<Count> + Send + Sync, T: Wait + Abort>(
-    rt: &T,
-    lot: &Lot<Count, N>,
-    owner: Owner<N>,
-    wanted: bool,
-) -> Standing<N>
-    requires { HasSizes lot.now }
-{
-    let Owner { pass, held } = owner;
-    let (pass, back) = free(lot, pass, held);
-    equal(rt, back.is_none(), wanted);
-    match back {
-        Some(held) => Standing::Owner(Owner { pass, held }),
-        None => Standing::Calm(Calm { pass }),
+    /// `lock` of another lock.
+    fn own_another(&self, owner: Owner<N>, key: usize) -> OwnerOfTwo<N> {
+        let Owner { pass, held } = owner;
+        lock_key(self.rt, key);
+        is_so(self.rt, key != held.key(), "it has this lock");
+        let (pass, first, second) = own_second(self.rt, self.lot, pass, held, key);
+        OwnerOfTwo {
+            pass,
+            first,
+            second,
+        }
     }
-}
 
-/// A thread that owns a lock waits, has its lock then, and lets it go.
-fn wait<N: LotName<Count> + Send + Sync, T: Wait + Abort>(
-    rt: &T,
-    lot: &Lot<Count, N>,
-    progress: &Progress,
-    owner: Owner<N>,
-    step: Step,
-) -> Calm<N>
-    requires { HasSizes lot.now }
-{
-    let Owner { pass, held } = owner;
-    let (pass, held) = match step {
-        Step::Wait(cond, now) => {
-            cond_key(rt, cond);
-            wait_once(rt, lot, pass, held, cond, now)
-        }
-        Step::WaitAtGate(cond) => {
-            cond_key(rt, cond);
-            let (pass, held, runs) = wait_at_gate(rt, lot, pass, held, cond, &progress.gate);
-            equal(rt, runs, 1);
-            (pass, held)
-        }
-        _ => failed(rt, "no wait"),
-    };
-    is_so(rt, lot.is_held(held.key()), "who waited has its lock");
-    let (pass, _) = release(rt, lot, pass, held, 0);
-    Calm { pass }
-}
-
-/// A step of a thread that owns one lock, by which it lets it go.
-fn let_go<N: LotName<Count> + Send + Sync, T: Wait + Abort>(
-    rt: &T,
-    lot: &Lot<Count, N>,
-    owner: Owner<N>,
-    step: Step,
-) -> Calm<N>
-    requires { HasSizes lot.now }
-{
-    let Owner { pass, held } = owner;
-    match step {
-        Step::Unlock(now, wanted) => {
-            let (pass, released) = release(rt, lot, pass, held, now);
-            equal(rt, released, wanted);
-            Calm { pass }
-        }
-        Step::UnlockFairly(wanted) => {
-            let (pass, released) = release_fairly(rt, lot, pass, held);
-            equal(rt, released, wanted);
-            Calm { pass }
-        }
-        Step::UnlockAsking(now, wanted_askings, wanted) => {
-            let (pass, released, askings) = release_asking(rt, lot, pass, held, now);
-            equal(rt, (released, askings), (wanted, wanted_askings));
-            Calm { pass }
-        }
-        Step::LetGo => {
-            let (pass, _) = release(rt, lot, pass, held, 0);
-            Calm { pass }
-        }
-        _ => failed(rt, "no step of a thread that owns a lock"),
+    /// `unlock_unparked`, with what is wanted of it.
+    fn try_to_free(&self, owner: Owner<N>, wanted: bool) -> Standing<N> {
+        let Owner { pass, held } = owner;
+        let (pass, back) = free(self.lot, pass, held);
+        equal(self.rt, back.is_none(), wanted);
+        owner_or_calm(pass, back)
     }
-}
 
-/// A step of a thread that owns two locks: it lets the first of them go.
-fn when_owner_of_two<N: LotName<Count> + Send + Sync, T: Wait + Abort>(
-    rt: &T,
-    lot: &Lot<Count, N>,
-    owner: OwnerOfTwo<N>,
-    step: Step,
-) -> Owner<N>
-    requires { HasSizes lot.now }
-{
-    let Step::UnlockFirst(wanted) = step else {
-        failed(rt, "no step of a thread that owns two locks")
-    };
-    let OwnerOfTwo {
-        pass,
-        first,
-        second,
-    } = owner;
-    let (pass, held, released) = release_first(rt, lot, pass, first, second);
-    equal(rt, released, wanted);
-    Owner { pass, held }
-}
-
-/// Makes a step of a thread.
-pub(crate) fn make_step<N: LotName<Count> + Send + Sync, T: Wait + Abort>(
-    rt: &T,
-    lot: &Lot<Count, N>,
-    progress: &Progress,
-    standing: Standing<N>,
-    step: Step,
-) -> Standing<N>
-    requires { HasSizes lot.now }
-{
-    if looks(rt, lot, progress, step) {
-        return standing;
+    /// A thread that owns a lock waits, has its lock then, and lets it go.
+    fn wait(&self, owner: Owner<N>, step: Step) -> Calm<N> {
+        let Owner { pass, held } = owner;
+        let (pass, held) = match step {
+            Step::Wait(cond, now) => {
+                cond_key(self.rt, cond);
+                wait_once(self.rt, self.lot, pass, held, cond, now)
+            }
+            Step::WaitAtGate(cond) => {
+                cond_key(self.rt, cond);
+                let gate = &self.progress.gate;
+                let (pass, held, runs) = wait_at_gate(self.rt, self.lot, pass, held, cond, gate);
+                equal(self.rt, runs, 1);
+                (pass, held)
+            }
+            _ => failed(self.rt, "no wait"),
+        };
+        is_so(
+            self.rt,
+            self.lot.is_held(held.key()),
+            "who waited has its lock",
+        );
+        let (pass, _) = release(self.rt, self.lot, pass, held, 0);
+        Calm { pass }
     }
-    match standing {
-        Standing::Out => Standing::Calm(when_out(rt, lot, progress, step)),
-        Standing::Calm(calm) => when_calm(rt, lot, progress, calm, step),
-        Standing::Owner(owner) => when_owner(rt, lot, progress, owner, step),
-        Standing::OwnerOfTwo(owner) => Standing::Owner(when_owner_of_two(rt, lot, owner, step)),
-        Standing::Holder(holder) => when_holder(rt, lot, holder, step),
-        Standing::HolderOfTwo(holder) => when_holder_of_two(rt, lot, holder, step),
-    }
-}
 
-/// The thread lets go of the lock that it owns, if it owns one, and leaves.
-pub(crate) fn give_up<N: LotName<Count> + Send + Sync, T: Wait + Abort>(
-    rt: &T,
-    lot: &Lot<Count, N>,
-    standing: Standing<N>,
-)
-    requires { HasSizes lot.now }
-{
-    match standing {
-        Standing::Out => {}
-        Standing::Calm(Calm { pass }) => lot.leave(rt, pass),
-        Standing::Owner(owner) => {
-            let Calm { pass } = let_go(rt, lot, owner, Step::LetGo);
-            lot.leave(rt, pass);
+    /// A step of a thread that owns one lock, by which it lets it go.
+    fn let_go(&self, owner: Owner<N>, step: Step) -> Calm<N> {
+        let Owner { pass, held } = owner;
+        match step {
+            Step::Unlock(now, wanted) => {
+                let (pass, released) = release(self.rt, self.lot, pass, held, now);
+                equal(self.rt, released, wanted);
+                Calm { pass }
+            }
+            Step::UnlockFairly(wanted) => {
+                let (pass, released) = release_fairly(self.rt, self.lot, pass, held);
+                equal(self.rt, released, wanted);
+                Calm { pass }
+            }
+            Step::UnlockAsking(now, wanted_askings, wanted) => {
+                let (pass, released, askings) = release_asking(self.rt, self.lot, pass, held, now);
+                equal(self.rt, (released, askings), (wanted, wanted_askings));
+                Calm { pass }
+            }
+            Step::LetGo => {
+                let (pass, _) = release(self.rt, self.lot, pass, held, 0);
+                Calm { pass }
+            }
+            _ => failed(self.rt, "no step of a thread that owns a lock"),
         }
-        _ => failed(rt, "a schedule that may be given up has one lock at a time"),
+    }
+
+    /// A step of a thread that owns two locks: it lets the first of them go.
+    fn when_owner_of_two(&self, owner: OwnerOfTwo<N>, step: Step) -> Owner<N> {
+        let Step::UnlockFirst(wanted) = step else {
+            failed(self.rt, "no step of a thread that owns two locks")
+        };
+        let OwnerOfTwo {
+            pass,
+            first,
+            second,
+        } = owner;
+        let (pass, held, released) = release_first(self.rt, self.lot, pass, first, second);
+        equal(self.rt, released, wanted);
+        Owner { pass, held }
+    }
+
+    /// Makes a step of a thread.
+    pub(crate) fn make_step(&self, standing: Standing<N>, step: Step) -> Standing<N> {
+        if self.looks(step) {
+            return standing;
+        }
+        match standing {
+            Standing::Out => Standing::Calm(self.when_out(step)),
+            Standing::Calm(calm) => self.when_calm(calm, step),
+            Standing::Owner(owner) => self.when_owner(owner, step),
+            Standing::OwnerOfTwo(owner) => Standing::Owner(self.when_owner_of_two(owner, step)),
+            Standing::Holder(holder) => self.when_holder(holder, step),
+            Standing::HolderOfTwo(holder) => self.when_holder_of_two(holder, step),
+        }
+    }
+
+    /// The thread lets go of the lock that it owns, if it owns one, and leaves.
+    pub(crate) fn give_up(&self, standing: Standing<N>) {
+        match standing {
+            Standing::Out => {}
+            Standing::Calm(Calm { pass }) => self.lot.leave(self.rt, pass),
+            Standing::Owner(owner) => {
+                let Calm { pass } = self.let_go(owner, Step::LetGo);
+                self.lot.leave(self.rt, pass);
+            }
+            _ => failed(
+                self.rt,
+                "a schedule that may be given up has one lock at a time",
+            ),
+        }
     }
 }

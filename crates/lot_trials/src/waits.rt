@@ -1,8 +1,8 @@
 //! Threads that wait on a condition and are notified, in the running code: they wait in an order that is made by hand,
 //! and some are held before they sleep.
 
-use crate::schedules::{come, leave, on_conds};
-use crate::steps::Step;
+use crate::schedules::{come, leave, on_lot};
+use crate::steps::{Memory, Step};
 use lot_sync::Released;
 use std::alloc::Global;
 use std::process::Abort;
@@ -34,12 +34,13 @@ static TAKEN_BEFORE_ITS_SLEEP: [(usize, Step); 11] = [
 
 #[test]
 fn notifications_are_answered(rt: HostRuntime) {
-    on_conds(
+    on_lot(
         &rt,
         rt.alloc(),
         2,
         &[&TAKEN_BEFORE_ITS_SLEEP, leave(2)],
         (1, 0),
+        Memory::Ample,
     );
 }
 
@@ -62,7 +63,14 @@ static HANDED_BY_A_WAIT: [(usize, Step); 12] = [
 
 #[test]
 fn a_wait_hands_its_lock_over(rt: HostRuntime) {
-    on_conds(&rt, rt.alloc(), 2, &[&HANDED_BY_A_WAIT, leave(2)], (1, 0));
+    on_lot(
+        &rt,
+        rt.alloc(),
+        2,
+        &[&HANDED_BY_A_WAIT, leave(2)],
+        (1, 0),
+        Memory::Ample,
+    );
 }
 
 /// A thread that sleeps on the condition has let its lock go, and gets it again when it is taken. The flag is clear
@@ -86,7 +94,14 @@ static LETS_GO: [(usize, Step); 14] = [
 
 #[test]
 fn a_wait_lets_go(rt: HostRuntime) {
-    on_conds(&rt, rt.alloc(), 2, &[&LETS_GO, leave(2)], (1, 0));
+    on_lot(
+        &rt,
+        rt.alloc(),
+        2,
+        &[&LETS_GO, leave(2)],
+        (1, 0),
+        Memory::Ample,
+    );
 }
 
 /// The thread registers and waits on the condition. So many are in the line then.
@@ -116,7 +131,7 @@ fn on_three_waits<T: Threads + Wait + Sync + Abort>(
         then,
         leave(4),
     ];
-    on_conds(rt, alloc, 4, &parts, (3, 0));
+    on_lot(rt, alloc, 4, &parts, (3, 0), Memory::Ample);
 }
 
 static NOBODY_WAITS: [(usize, Step); 3] = [
@@ -184,5 +199,5 @@ fn a_flag_stays_while_others_wait(rt: HostRuntime) {
         &TWO_CONDITIONS,
         leave(3),
     ];
-    on_conds(&rt, rt.alloc(), 4, &parts, (1, 1));
+    on_lot(&rt, rt.alloc(), 4, &parts, (1, 1), Memory::Ample);
 }

@@ -2,7 +2,7 @@ use Rattle.std.proofs.Common.{ap, ◌∙◌}
 use Rattle.lot_sync.specs.Lot.{PassView}
 use Rattle.lot_sync.proofs.Holdings.{owns_none_again}
 use Rattle.lot_trials.proofs.OneRun.{released_by}
-use Rattle.lot_trials.proofs.runs.turn.Goals as goal
+use Rattle.lot_trials.proofs.runs.Visitor+Number+N+T.turn.Goals as goal
 
 pub returns : goal.returns
 returns g c =

@@ -1,7 +1,7 @@
 use Rattle.std.proofs.Common.{◌≡◌, subst}
 use Rattle.lot_sync.proofs.Holdings.{owns_none_again, seen_left}
 use Rattle.lot_load.proofs.Rounds.{read_may_go_back}
-use Rattle.lot_trials.proofs.history.look.Goals as goal
+use Rattle.lot_trials.proofs.passes.Visitor.look.Goals as goal
 
 pub unlock-pass-requires-clause-back : goal.unlock-pass-requires-clause-back
 unlock-pass-requires-clause-back g c κs within =

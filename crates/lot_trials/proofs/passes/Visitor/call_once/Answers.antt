@@ -1,7 +1,7 @@
 use Rattle.std.proofs.Common.{subst, ap, ◌∙◌}
 use Rattle.lot_sync.proofs.Holdings.{owns_none_again, seen_left}
 use Rattle.lot_load.proofs.Rounds.{may_give_back}
-use Rattle.lot_trials.proofs.history.call_once.Goals as goal
+use Rattle.lot_trials.proofs.passes.Visitor.call_once.Goals as goal
 
 pub unlock-pass-requires-clause-back : goal.unlock-pass-requires-clause-back
 unlock-pass-requires-clause-back g c κs within =
